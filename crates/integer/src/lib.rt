@@ -12,7 +12,11 @@ pub const HIGHEST: i32 = 32767;
 fn fit(z: i64) -> Option<i32>
     ensures { λ r. ⌜ r ≡ kept integer z ⌝ }
 {
-    if z < LOWEST as i64 || z > HIGHEST as i64 { None } else { Some(z as i32) }
+    if z < LOWEST as i64 || z > HIGHEST as i64 {
+        None
+    } else {
+        Some(z as i32)
+    }
 }
 
 /// x + y, or none if that is no INTEGER.

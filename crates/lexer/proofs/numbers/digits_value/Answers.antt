@@ -1,0 +1,20 @@
+use mathlib.Core.Path.{sym, _∙_}
+use native.Mathlib.Omega.{arith}
+use Rattle.lexer.specs.Numbers.{beyond}
+use Rattle.lexer.proofs.Capped.{digit-more, digit-none, digit-all}
+use Rattle.lexer.proofs.numbers.digits_value.Needs as need
+
+pub returns-then-digit-base : need.returns-then-digit-base
+returns-then-digit-base c =
+    sym (digit-none beyond (c .args .base) (c .loop-c .total) (c .args .digits .now) (c .loop-c .c-index) (c .digit-value-digit .result) (omega arith) (c .digit-value-digit .ensures) (omega arith)) ∙ c .loop-c .inv .1
+
+pub loop-c-again : need.loop-c-again
+loop-c-again c =
+    let m = c .min-total .ensures in (
+      omega arith,
+      digit-more beyond (c .args .base) (c .loop-c .total) (c .args .digits .now) (c .loop-c .c-index) (c .min-total .result) (c .digit-value-digit .result) (omega arith) (omega arith) (c .digit-value-digit .ensures) (omega arith) m ∙ c .loop-c .inv .1,
+    )
+
+pub returns : need.returns
+returns c =
+    sym (digit-all beyond (c .args .base) (c .loop-c .total) (c .args .digits .now) (c .loop-c .c-index) (omega arith) (c .loop-c .inv .0)) ∙ c .loop-c .inv .1
