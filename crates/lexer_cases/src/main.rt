@@ -1,0 +1,114 @@
+// Scans each source of a table, one to a line, and answers it with its symbols or its fault.
+// A line that begins with % is passed over. In a source, \t \r \n and \\ are a tab, a carriage return, a
+// line feed and a backslash, \xHH is the byte HH, and \#NNNNNc is the byte c, NNNNN times.
+mod decode;
+
+use decode::decode;
+use lexer::MAX_SYMBOLS;
+use lexer::Symbol;
+use lexer::SymbolRecord;
+use lexer::Tag;
+use lexer::next_symbol;
+use lexer::number_value;
+use lexer::scan;
+use std::io;
+use std::io::BufRead;
+use std::io::BufReader;
+use std::str::from_utf8;
+
+const SHOWN: usize = 12;
+
+// What a number at a place stands for.
+fn value_at(source: &[u8], place: usize) -> Option<i32> {
+    match next_symbol(source, place) {
+        Ok(lexeme) => match lexeme.symbol {
+            Symbol::Number(text) => number_value(text).ok(),
+            _ => None,
+        },
+        Err(_) => None,
+    }
+}
+
+// The place and the tag of a symbol, and the value of a number.
+fn show(rt: &LibcRuntime, source: &[u8], record: SymbolRecord) -> io::Result<()> {
+    let place = record.place;
+    let tag = from_utf8(record.tag.spelling()).unwrap_or("");
+    match value_at(source, place as usize) {
+        Some(value) => print!(rt, " {place} {tag}={value}"),
+        None => print!(rt, " {place} {tag}"),
+    }
+}
+
+// The first symbols, and how many there are.
+fn list(rt: &LibcRuntime, source: &[u8], records: &[SymbolRecord]) -> io::Result<()> {
+    for record in records.iter().take(SHOWN) {
+        show(rt, source, *record)?;
+    }
+    let count = records.len();
+    println!(rt, " ({count})")
+}
+
+// One source, and its answer.
+fn answer(rt: &LibcRuntime, line: &str, source: &[u8]) -> io::Result<()> {
+    print!(rt, "{line} =>")?;
+    let mut records = [SymbolRecord::ZERO; MAX_SYMBOLS];
+    match scan(source, &mut records) {
+        Err(fault) => {
+            let number = fault.kind.number();
+            let place = fault.place;
+            println!(rt, " refused {number} at {place}")
+        }
+        Ok(count) if count <= MAX_SYMBOLS => list(rt, source, &records[0..count]),
+        Ok(_) => Ok(()),
+    }
+}
+
+// What a list of 1,023 records holds after it was refused: what it held before.
+fn short_list(rt: &LibcRuntime) -> io::Result<()> {
+    let mut records = [SymbolRecord {
+        tag: Tag::Comma,
+        place: 7,
+    }; 1023];
+    if let Err(fault) = scan(b"a", &mut records) {
+        let number = fault.kind.number();
+        let place = fault.place;
+        let first = records[0].place;
+        let last = records[1022].place;
+        println!(
+            rt,
+            "1023 records => refused {number} at {place}, still {first} and {last}"
+        )?;
+    }
+    Ok(())
+}
+
+// What a list holds after a fault behind its first symbol: nothing, to its last record.
+fn zeroed_list(rt: &LibcRuntime) -> io::Result<()> {
+    let mut records = [SymbolRecord {
+        tag: Tag::Comma,
+        place: 7,
+    }; 1025];
+    if let Err(fault) = scan(b" a ?", &mut records) {
+        let number = fault.kind.number();
+        let place = fault.place;
+        let first = records[0].place;
+        let last = records[1024].place;
+        println!(
+            rt,
+            "1025 records => refused {number} at {place}, now {first} and {last}"
+        )?;
+    }
+    Ok(())
+}
+
+fn main(rt: LibcRuntime) -> io::Result<()> {
+    for line in BufReader::new(rt.stdin()).lines(rt.alloc()) {
+        let line = line?;
+        if line.as_bytes().first() != Some(&b'%') {
+            let source = decode(rt.alloc(), line.as_bytes())?;
+            answer(&rt, line.as_str(), &source)?;
+        }
+    }
+    short_list(&rt)?;
+    zeroed_list(&rt)
+}
