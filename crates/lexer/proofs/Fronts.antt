@@ -23,10 +23,10 @@ use Rattle.lexer.specs.Numbers.{numberValue, judged}
 use Rattle.lexer.specs.Signs.{single, double, narrow, wide, signOf}
 use Rattle.lexer.specs.Scan.{Found, frontOf, placed, symbolAt, numbered, signed, ends}
 
-some-same : {X : Type 0} {a b : X} → Some a ≡ Some b → a ≡ b
+pub some-same : {X : Type 0} {a b : X} → Some a ≡ Some b → a ≡ b
 some-same e = cc
 
-none-some : {X : Type 0} (b : X) → _≡_ {A = Option X} None (Some b) → ⊥
+pub none-some : {X : Type 0} (b : X) → _≡_ {A = Option X} None (Some b) → ⊥
 none-some b e = let z : _≡_ {A = ℕ} 0 1 = cc in omega arith
 
 pub ok-same : {X Y : Type 0} {a b : X} → _≡_ {A = Result X Y} (Ok a) (Ok b) → a ≡ b

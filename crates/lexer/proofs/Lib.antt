@@ -4,3 +4,6 @@ pub mod Capped
 pub mod Skips
 pub mod Fronts
 pub mod Turns
+pub mod Gaps
+pub mod Longest
+pub mod Readings

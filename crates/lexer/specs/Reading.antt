@@ -1,6 +1,6 @@
 -- What it is to read a source, told of the source alone: symbols one behind another, each the longest that
 -- begins at its place, with nothing but separators and closed comments before, between and behind them.
-use mathlib.Core.Bool.{Bool, true, false, cond, _&&_, _||_}
+use mathlib.Core.Bool.{Bool, true, false, cond, _&&_}
 use mathlib.Core.List.{List, [], _∷_, _++_}
 use mathlib.Core.Path.{_≡_}
 use Prim.Native.Nat.{ℕ, zero, suc, _-_, _<_, _≤_}
@@ -8,7 +8,7 @@ use lib.IntN.{pos}
 use lib.ListN.{length, drop, take, getD}
 use Rattle.std.specs.declared.option.Option.{Option}
 use Rattle.std.specs.declared.option.Option.the-variants.{Some, None}
-use Rattle.std.specs.declared.result.Result.the-variants.{Ok, Err}
+use Rattle.std.specs.declared.result.Result.the-variants.{Ok}
 use Rattle.integer.specs.Ends.{integer, Within}
 use Rattle.lexer.specs.declared.tag.Tag.{Tag}
 use Rattle.lexer.specs.declared.tag.Tag.the-variants.{Number}
@@ -48,10 +48,12 @@ pub data Gap : List ℕ → Type 0 where
   blank : {c : ℕ} {xs : List ℕ} → separator c ≡ true → Gap xs → Gap (c ∷ xs)
   comment : {ks xs : List ℕ} → Inside 1 ks → Gap xs → Gap (40 ∷ (42 ∷ (ks ++ xs)))
 
+-- every byte is a letter or a digit
 abbrev pub allAlphanumeric : List ℕ → Bool
 allAlphanumeric [] = true
 allAlphanumeric (c ∷ cs) = alphanumeric c && allAlphanumeric cs
 
+-- the tag, if the test holds
 abbrev pub only : Bool → Tag → Option Tag
 only true tag = Some tag
 only false tag = None

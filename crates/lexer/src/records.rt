@@ -6,6 +6,7 @@ ghost use Rattle.std.specs.declared.result.Result.the-variants.{Ok, Err};
 ghost use Rattle.std.specs.Results.{Cases as ByOk};
 ghost use Rattle.lexer.specs.Scan.{seen, symbolsOf, symbolLimit, byteLimit, tagOf, textOf, isEnd};
 ghost use Rattle.lexer.specs.Records.{recordOf, recorded, scanning, kept};
+ghost use Rattle.lexer.specs.Reading.{Lawful};
 use crate::next::next_symbol;
 use crate::symbol::Lexeme;
 use crate::symbol::Symbol;
@@ -70,7 +71,8 @@ fn fill(source: &[u8], records: &mut [SymbolRecord]) -> Result<usize, Fault>
 /// Fills the list with the symbols of a source and answers how many there are; the rest of the list stays.
 /// A list under 1,024 records is refused untouched; on any other fault the whole list is zeroed.
 pub fn scan(source: &[u8], records: &mut [SymbolRecord]) -> Result<usize, Fault>
-    ensures { λ r. ⌜ (r, now (records .exit)) ≡ scanning (now (source .entry)) (now (records .entry)) ⌝ }
+    ensures answer { λ r. ⌜ (r, now (records .exit)) ≡ scanning (now (source .entry)) (now (records .entry)) ⌝ }
+    ensures law { λ _. ⌜ Lawful (now (source .entry)) ⌝ }
 {
     if records.len() < MAX_SYMBOLS {
         return Err(Fault {

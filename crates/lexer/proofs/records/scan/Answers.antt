@@ -15,6 +15,7 @@ use Rattle.faults.specs.declared.kind.Fault.{Fault}
 use Rattle.lexer.specs.declared.symbol.SymbolRecord.{SymbolRecord}
 use Rattle.lexer.specs.Scan.{symbolsOf, symbolLimit, byteLimit}
 use Rattle.lexer.specs.Records.{recorded, stored, scanning}
+use Rattle.lexer.proofs.Readings.{lawful}
 use Rattle.lexer.proofs.records.scan.Needs as need
 
 -- the lengths allow a scan
@@ -32,5 +33,15 @@ answered s before after (Ok n) h k o p =
     sym (judged-by-length s before h k ∙ ap (stored before) (p .1) ∙ filled n before after (p .0) (p .2))
 answered s before after (Err e) h k o p = absurd (search needs)
 
+pub returns-then-records-lt-MAX-SYMBOLS : need.returns-then-records-lt-MAX-SYMBOLS
+returns-then-records-lt-MAX-SYMBOLS c = record { answer = search needs; law = lawful _ }
+
+pub returns-then-source-gt-MAX-BYTES : need.returns-then-source-gt-MAX-BYTES
+returns-then-source-gt-MAX-BYTES c = record { answer = search needs; law = lawful _ }
+
+pub returns-then-is-err : need.returns-then-is-err
+returns-then-is-err c = record { answer = search needs; law = lawful _ }
+
 pub returns-else-is-err : need.returns-else-is-err
-returns-else-is-err c = answered _ _ _ _ (omega arith) (omega arith) (search needs) (c .fill-answer .ensures)
+returns-else-is-err c =
+    record { answer = answered _ _ _ _ (omega arith) (omega arith) (search needs) (c .fill-answer .ensures); law = lawful _ }
