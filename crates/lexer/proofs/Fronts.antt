@@ -15,12 +15,12 @@ use Rattle.std.specs.declared.result.Result.the-variants.{Ok, Err}
 use Rattle.std.proofs.shelf.Lists.{drop-more, at-drop-all, take-rest, length-take, length-drop}
 use Rattle.faults.specs.declared.kind.FaultKind.{FaultKind}
 use Rattle.faults.specs.declared.kind.Fault.{Fault}
-use Rattle.lexer.specs.declared.tag.Tag.{Tag}
-use Rattle.lexer.specs.declared.tag.Tag.the-variants.{EndOfSource}
-use Rattle.lexer.specs.Characters.{letter, digit, alphanumeric, run}
-use Rattle.lexer.specs.Tags.{wordTag}
-use Rattle.lexer.specs.Numbers.{numberValue, judged}
-use Rattle.lexer.specs.Signs.{single, double, narrow, wide, signOf}
+use Rattle.vocabulary.specs.declared.tag.Tag.{Tag}
+use Rattle.vocabulary.specs.declared.tag.Tag.the-variants.{EndOfSource}
+use Rattle.vocabulary.specs.Characters.{letter, digit, alphanumeric, run}
+use Rattle.vocabulary.specs.Tags.{wordTag}
+use Rattle.vocabulary.specs.Numbers.{numberValue, judged}
+use Rattle.vocabulary.specs.Signs.{single, double, narrow, wide, signOf}
 use Rattle.lexer.specs.Scan.{Found, frontOf, placed, symbolAt, numbered, signed, ends}
 
 pub some-same : {X : Type 0} {a b : X} → Some a ≡ Some b → a ≡ b

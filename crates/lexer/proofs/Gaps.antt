@@ -11,7 +11,7 @@ use Rattle.std.specs.declared.result.Result.the-variants.{Ok}
 use Rattle.std.proofs.shelf.Lists.{append-assoc, length-append}
 use Rattle.std.proofs.shelf.Tests.{lt-ltb, eqb-true, ne-eqb, and-parts}
 use Rattle.std.proofs.shelf.Ways.{tells}
-use Rattle.lexer.specs.Characters.{separator}
+use Rattle.vocabulary.specs.Characters.{separator}
 use Rattle.lexer.specs.Leads.{opens, closes}
 use Rattle.lexer.specs.Scan.{skipped}
 use Rattle.lexer.specs.Reading.{opening, closing, Inside, Gap}

@@ -1,6 +1,4 @@
-pub mod Runs
-pub mod Naming
-pub mod Capped
+pub mod RunEnds
 pub mod Skips
 pub mod Fronts
 pub mod Turns

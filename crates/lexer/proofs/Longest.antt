@@ -19,12 +19,12 @@ use Rattle.std.proofs.shelf.Ways.{tells}
 use Rattle.faults.specs.declared.kind.FaultKind.{FaultKind}
 use Rattle.faults.specs.declared.kind.FaultKind.the-variants.{NumberTooLarge, StrayByte}
 use Rattle.integer.specs.Ends.{integer, Within}
-use Rattle.lexer.specs.declared.tag.Tag.{Tag}
-use Rattle.lexer.specs.declared.tag.Tag.the-variants.{Number}
-use Rattle.lexer.specs.Characters.{letter, digit, alphanumeric, separator, run}
-use Rattle.lexer.specs.Tags.{wordTag}
-use Rattle.lexer.specs.Numbers.{numberValue, judged}
-use Rattle.lexer.specs.Signs.{single, double, signTag, wide, narrow, signOf}
+use Rattle.vocabulary.specs.declared.tag.Tag.{Tag}
+use Rattle.vocabulary.specs.declared.tag.Tag.the-variants.{Number}
+use Rattle.vocabulary.specs.Characters.{letter, digit, alphanumeric, separator, run}
+use Rattle.vocabulary.specs.Tags.{wordTag}
+use Rattle.vocabulary.specs.Numbers.{numberValue, judged}
+use Rattle.vocabulary.specs.Signs.{single, double, signTag, wide, narrow, signOf}
 use Rattle.lexer.specs.Scan.{frontOf, numbered, signed}
 use Rattle.lexer.specs.Reading.{allAlphanumeric, only, symbolTag}
 use Rattle.lexer.proofs.Fronts.{some-same, none-some, ok-same, err-ok}

@@ -13,9 +13,9 @@ use Rattle.std.proofs.shelf.Lists.{take-append-drop, drop-drop, take-at, drop-a
 use Rattle.std.proofs.shelf.Tests.{cases-lt, ne-eqb}
 use Rattle.faults.specs.declared.kind.FaultKind.{FaultKind}
 use Rattle.faults.specs.declared.kind.Fault.{Fault}
-use Rattle.lexer.specs.declared.tag.Tag.{Tag}
-use Rattle.lexer.specs.declared.tag.Tag.the-variants.{EndOfSource}
-use Rattle.lexer.specs.Characters.{separator}
+use Rattle.vocabulary.specs.declared.tag.Tag.{Tag}
+use Rattle.vocabulary.specs.declared.tag.Tag.the-variants.{EndOfSource}
+use Rattle.vocabulary.specs.Characters.{separator}
 use Rattle.lexer.specs.Scan.{Found, endOf, ends, skipped, frontOf, placed, symbolAt, thence, symbolFrom, symbolsFrom, symbolLimit, onto}
 use Rattle.lexer.specs.Reading.{stretch, opening, symbolTag, Gap, IsSymbol, Reads, Lawful}
 use Rattle.lexer.proofs.Fronts.{ok-same, err-ok, none-some, stretch-length, at-end}

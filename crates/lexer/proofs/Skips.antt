@@ -14,7 +14,7 @@ use Rattle.faults.specs.declared.kind.FaultKind.the-variants.{OpenComment}
 use Rattle.faults.specs.declared.kind.Fault.{Fault}
 use Rattle.lexer.specs.declared.symbol.Lead.{Lead}
 use Rattle.lexer.specs.declared.symbol.Lead.the-variants.{Done, Open, Nest, Close, Pass, Stop}
-use Rattle.lexer.specs.Characters.{separator}
+use Rattle.vocabulary.specs.Characters.{separator}
 use Rattle.lexer.specs.Leads.{leadOf, passing, opens, closes}
 use Rattle.lexer.specs.Scan.{skipped, fault}
 

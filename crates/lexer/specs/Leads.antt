@@ -5,7 +5,7 @@ use Prim.Native.Nat.{ℕ}
 use lib.Dec.{eqb}
 use Rattle.lexer.specs.declared.symbol.Lead.{Lead}
 use Rattle.lexer.specs.declared.symbol.Lead.the-variants.{Done, Open, Nest, Close, Pass, Stop}
-use Rattle.lexer.specs.Characters.{separator}
+use Rattle.vocabulary.specs.Characters.{separator}
 
 -- the two bytes that open a comment, and the two that close it
 abbrev pub opens : ℕ → ℕ → Bool

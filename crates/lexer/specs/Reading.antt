@@ -10,12 +10,12 @@ use Rattle.std.specs.declared.option.Option.{Option}
 use Rattle.std.specs.declared.option.Option.the-variants.{Some, None}
 use Rattle.std.specs.declared.result.Result.the-variants.{Ok}
 use Rattle.integer.specs.Ends.{integer, Within}
-use Rattle.lexer.specs.declared.tag.Tag.{Tag}
-use Rattle.lexer.specs.declared.tag.Tag.the-variants.{Number}
-use Rattle.lexer.specs.Characters.{letter, digit, alphanumeric, separator}
-use Rattle.lexer.specs.Tags.{wordTag}
-use Rattle.lexer.specs.Numbers.{numberValue}
-use Rattle.lexer.specs.Signs.{signTag}
+use Rattle.vocabulary.specs.declared.tag.Tag.{Tag}
+use Rattle.vocabulary.specs.declared.tag.Tag.the-variants.{Number}
+use Rattle.vocabulary.specs.Characters.{letter, digit, alphanumeric, separator}
+use Rattle.vocabulary.specs.Tags.{wordTag}
+use Rattle.vocabulary.specs.Numbers.{numberValue}
+use Rattle.vocabulary.specs.Signs.{signTag}
 use Rattle.lexer.specs.Leads.{opens, closes}
 use Rattle.lexer.specs.Scan.{Found, endOf, symbolsOf, symbolLimit}
 

@@ -10,7 +10,7 @@ use Rattle.std.specs.declared.result.Result.{Result}
 use Rattle.std.specs.declared.result.Result.the-variants.{Ok, Err}
 use Rattle.faults.specs.declared.kind.FaultKind.the-variants.{ListTooShort, SourceTooLong}
 use Rattle.faults.specs.declared.kind.Fault.{Fault}
-use Rattle.lexer.specs.declared.tag.Tag.the-variants.{EndOfSource}
+use Rattle.vocabulary.specs.declared.tag.Tag.the-variants.{EndOfSource}
 use Rattle.lexer.specs.declared.symbol.SymbolRecord.{SymbolRecord}
 use Rattle.lexer.specs.Scan.{Found, fault, symbolsOf, symbolLimit, byteLimit}
 

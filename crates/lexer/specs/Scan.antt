@@ -13,15 +13,15 @@ use Rattle.std.specs.declared.result.Result.the-variants.{Ok, Err}
 use Rattle.faults.specs.declared.kind.FaultKind.{FaultKind}
 use Rattle.faults.specs.declared.kind.FaultKind.the-variants.{StrayByte, OpenComment, TooManySymbols}
 use Rattle.faults.specs.declared.kind.Fault.{Fault}
-use Rattle.lexer.specs.declared.tag.Tag.{Tag}
-use Rattle.lexer.specs.declared.tag.Tag.the-variants.{EndOfSource, Identifier, Number}
+use Rattle.vocabulary.specs.declared.tag.Tag.{Tag}
+use Rattle.vocabulary.specs.declared.tag.Tag.the-variants.{EndOfSource, Identifier, Number}
 use Rattle.lexer.specs.declared.symbol.Symbol.{Symbol}
 use Rattle.lexer.specs.declared.symbol.Symbol.the-variants as cases
 use Rattle.lexer.specs.declared.symbol.Lexeme.{Lexeme}
-use Rattle.lexer.specs.Characters.{letter, digit, separator, run}
-use Rattle.lexer.specs.Tags.{wordTag}
-use Rattle.lexer.specs.Numbers.{numberValue, judged}
-use Rattle.lexer.specs.Signs.{signOf}
+use Rattle.vocabulary.specs.Characters.{letter, digit, separator, run}
+use Rattle.vocabulary.specs.Tags.{wordTag}
+use Rattle.vocabulary.specs.Numbers.{numberValue, judged}
+use Rattle.vocabulary.specs.Signs.{signOf}
 use Rattle.lexer.specs.Leads.{opens, closes}
 
 -- a symbol: its tag, its place, and its text

@@ -5,21 +5,21 @@ ghost use lib.ListN.{length, drop};
 ghost use Rattle.std.specs.declared.result.Result.the-variants.{Ok, Err};
 ghost use Rattle.std.specs.Results.{Cases as ByOk};
 ghost use Rattle.std.specs.Vec.{made};
-ghost use Rattle.lexer.specs.Tags.{wordTag};
+ghost use Rattle.vocabulary.specs.Tags.{wordTag};
 ghost use Rattle.lexer.specs.Leads.{leadOf, width};
 ghost use Rattle.lexer.specs.Scan.{skipped, symbolAt, symbolFrom, seen, endOf, tagOf, textOf, isEnd, ends};
-use crate::characters::is_digit;
-use crate::characters::is_letter;
-use crate::characters::run_end;
-use crate::numbers::number_value;
-use crate::signs::sign;
+use crate::runs::run_end;
 use crate::symbol::Lead;
 use crate::symbol::Lexeme;
 use crate::symbol::Symbol;
-use crate::tag::Tag;
-use crate::words::word_tag;
 use faults::Fault;
 use faults::FaultKind;
+use vocabulary::Tag;
+use vocabulary::is_digit;
+use vocabulary::is_letter;
+use vocabulary::number_value;
+use vocabulary::sign;
+use vocabulary::word_tag;
 
 /// What the bytes begin with, inside of a comment or outside.
 fn lead(rest: &[u8], inside: bool) -> Lead

@@ -1,7 +1,7 @@
 ghost use mathlib.Core.Path.{_≡_};
 ghost use Rattle.lexer.specs.Scan.{tagOf, textOf};
 use crate::symbol::Symbol;
-use crate::tag::Tag;
+use vocabulary::Tag;
 
 impl<'a> Symbol<'a> {
     /// The symbol's tag.

@@ -5,15 +5,15 @@ ghost use Rattle.std.specs.declared.option.Option.the-variants.{Some, None};
 ghost use Rattle.std.specs.declared.result.Result.the-variants.{Ok, Err};
 ghost use Rattle.std.specs.Results.{Cases as ByOk};
 ghost use Rattle.lexer.specs.Scan.{seen, symbolsOf, symbolLimit, byteLimit, tagOf, textOf, isEnd};
-ghost use Rattle.lexer.specs.Records.{recordOf, recorded, scanning, kept};
+ghost use Rattle.lexer.specs.Records.{recorded, stored, scanning, kept};
 ghost use Rattle.lexer.specs.Reading.{Lawful};
 use crate::next::next_symbol;
 use crate::symbol::Lexeme;
 use crate::symbol::Symbol;
 use crate::symbol::SymbolRecord;
-use crate::tag::Tag;
 use faults::Fault;
 use faults::FaultKind;
+use vocabulary::Tag;
 
 /// The most symbols that a source may have, the end of the source not counted.
 pub const MAX_SYMBOLS: usize = 1024;
@@ -68,6 +68,14 @@ fn fill(source: &[u8], records: &mut [SymbolRecord]) -> Result<usize, Fault>
     }
 }
 
+/// Zeroes the list, and answers the fault.
+fn refused(records: &mut [SymbolRecord], fault: Fault) -> Result<usize, Fault>
+    ensures { λ r. ⌜ (r, now (records .exit)) ≡ stored (now (records .entry)) (Err fault) ⌝ }
+{
+    records.fill(SymbolRecord::ZERO);
+    Err(fault)
+}
+
 /// Fills the list with the symbols of a source and answers how many there are; the rest of the list stays.
 /// A list under 1,024 records is refused untouched; on any other fault the whole list is zeroed.
 pub fn scan(source: &[u8], records: &mut [SymbolRecord]) -> Result<usize, Fault>
@@ -81,15 +89,16 @@ pub fn scan(source: &[u8], records: &mut [SymbolRecord]) -> Result<usize, Fault>
         });
     }
     if source.len() > MAX_BYTES {
-        records.fill(SymbolRecord::ZERO);
-        return Err(Fault {
-            kind: FaultKind::SourceTooLong,
-            place: MAX_BYTES,
-        });
+        return refused(
+            records,
+            Fault {
+                kind: FaultKind::SourceTooLong,
+                place: MAX_BYTES,
+            },
+        );
     }
-    let answer = fill(source, records);
-    if answer.is_err() {
-        records.fill(SymbolRecord::ZERO);
+    match fill(source, records) {
+        Ok(count) => Ok(count),
+        Err(fault) => refused(records, fault),
     }
-    answer
 }

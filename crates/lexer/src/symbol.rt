@@ -1,4 +1,4 @@
-use crate::tag::Tag;
+use vocabulary::Tag;
 
 /// A symbol, with the very stretch of source that it was read from.
 #[derive(Clone, Copy)]

@@ -7,14 +7,14 @@ use decode::decode;
 use lexer::MAX_SYMBOLS;
 use lexer::Symbol;
 use lexer::SymbolRecord;
-use lexer::Tag;
 use lexer::next_symbol;
-use lexer::number_value;
 use lexer::scan;
 use std::io;
 use std::io::BufRead;
 use std::io::BufReader;
 use std::str::from_utf8;
+use vocabulary::Tag;
+use vocabulary::number_value;
 
 const SHOWN: usize = 12;
 

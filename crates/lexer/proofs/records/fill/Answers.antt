@@ -37,8 +37,8 @@ pub symbols-again : need.symbols-again
 symbols-again c =
     let i = c .symbols .inv in
     let l = c .in-Continue-lexeme .ensures tt in
-    let k = kept-some _ (seen (c .in-Continue-lexeme .lexeme)) _ (c .in-Some .ensures tt) in
     let h : c .symbols .count < symbolLimit = omega arith in
+    let k = kept-some _ (seen (c .in-Continue-lexeme .lexeme)) _ (c .in-Some .ensures tt) in
     let t = turn symbolLimit _ (c .symbols .records) (c .symbols .count) _ _ (c .in-Some .record) _ h (omega arith) (l .is) (sym (l .ends) ∙ k .0) (k .1) (i .1) in (
       omega arith,
       ap (λ at. behind (take (c .symbols .count + 1) (set (c .symbols .records) (c .symbols .count) (c .in-Some .record))) (recorded (symbolsFrom (symbolLimit - (c .symbols .count + 1)) (c .args .source .now) at))) (l .end) ∙ t,

@@ -28,10 +28,9 @@ filled n before after h e =
     let l : length (take n after) ≡ n = simp length-take (omega arith) in
     rw (l, ← e, take-append-drop n after) refl
 
-answered : (s : List ℕ) (before after : List SymbolRecord) (r : Result ℕ Fault) → symbolLimit ≤ length before → length s ≤ byteLimit → isErr r ≡ false → ByOk r (λ n. (n ≤ length after) × (recorded (symbolsOf s) ≡ Ok (take n after)) × (drop n after ≡ drop n before)) (λ e. recorded (symbolsOf s) ≡ Err e) → (r, after) ≡ scanning s before
-answered s before after (Ok n) h k o p =
-    sym (judged-by-length s before h k ∙ ap (stored before) (p .1) ∙ filled n before after (p .0) (p .2))
-answered s before after (Err e) h k o p = absurd (search needs)
+-- what a fault leaves depends on the list's length alone
+zeroed-alike : (xs ys : List SymbolRecord) (e : Fault) → length xs ≡ length ys → stored xs (Err e) ≡ stored ys (Err e)
+zeroed-alike xs ys e h = rw h refl
 
 pub returns-then-records-lt-MAX-SYMBOLS : need.returns-then-records-lt-MAX-SYMBOLS
 returns-then-records-lt-MAX-SYMBOLS c = record { answer = search needs; law = lawful _ }
@@ -39,9 +38,15 @@ returns-then-records-lt-MAX-SYMBOLS c = record { answer = search needs; law = la
 pub returns-then-source-gt-MAX-BYTES : need.returns-then-source-gt-MAX-BYTES
 returns-then-source-gt-MAX-BYTES c = record { answer = search needs; law = lawful _ }
 
-pub returns-then-is-err : need.returns-then-is-err
-returns-then-is-err c = record { answer = search needs; law = lawful _ }
+pub returns-in-Ok : need.returns-in-Ok
+returns-in-Ok c =
+    let f = c .in-Ok .ensures tt in
+    let j = judged-by-length (c .args .source .now) (c .args .records .now) (omega arith) (omega arith) in
+    record { answer = sym (j ∙ ap (stored (c .args .records .now)) (f .1) ∙ filled _ _ _ (f .0) (f .2)); law = lawful _ }
 
-pub returns-else-is-err : need.returns-else-is-err
-returns-else-is-err c =
-    record { answer = answered _ _ _ _ (omega arith) (omega arith) (search needs) (c .fill-answer .ensures); law = lawful _ }
+pub returns-in-Err : need.returns-in-Err
+returns-in-Err c =
+    let f = c .in-Err .ensures tt in
+    let j = judged-by-length (c .args .source .now) (c .args .records .now) (omega arith) (omega arith) in
+    let l = zeroed-alike (c .fill .last .records) (c .args .records .now) (c .in-Err .fault) (omega arith) in
+    record { answer = c .refused-in-Err .ensures ∙ l ∙ sym (j ∙ ap (stored (c .args .records .now)) f); law = lawful _ }

@@ -1,7 +1,7 @@
 ghost use mathlib.Core.Path.{_≡_};
 ghost use Prim.Native.Nat.{_≤_, min};
 ghost use Rattle.std.specs.Options.{mapped};
-ghost use Rattle.lexer.specs.Numbers.{digitValue, digitsValue, baseBy, beyond, numberValue, judged};
+ghost use Rattle.vocabulary.specs.Numbers.{digitValue, digitsValue, baseBy, beyond, numberValue, judged};
 use crate::characters::is_digit;
 use faults::FaultKind;
 

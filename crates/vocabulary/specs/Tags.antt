@@ -4,8 +4,8 @@ use mathlib.Core.Bool.{Bool, cond}
 use Prim.Native.Nat.{ℕ}
 use lib.Chars.{codes}
 use Rattle.std.specs.shelf.Text.{sameBytes}
-use Rattle.lexer.specs.declared.tag.Tag.{Tag}
-use Rattle.lexer.specs.declared.tag.Tag.the-variants.{EndOfSource, And, Array, Begin, By, Case, Const, Definition, Div, Do, Else, Elsif, End, Exit, Export, For, From, If, Implementation, Import, In, Loop, Mod, Module, Not, Of, Or, Pointer, Procedure, Qualified, Record, Repeat, Return, Set, Then, To, «Type», Until, Var, While, With, Identifier, Number, Plus, Minus, Times, Equal, NotEqual, Less, AtMost, Greater, AtLeast, Becomes, Period, Range, Comma, Semicolon, Colon, OpenRound, CloseRound, OpenSquare, CloseSquare, OpenCurly, CloseCurly}
+use Rattle.vocabulary.specs.declared.tag.Tag.{Tag}
+use Rattle.vocabulary.specs.declared.tag.Tag.the-variants.{EndOfSource, And, Array, Begin, By, Case, Const, Definition, Div, Do, Else, Elsif, End, Exit, Export, For, From, If, Implementation, Import, In, Loop, Mod, Module, Not, Of, Or, Pointer, Procedure, Qualified, Record, Repeat, Return, Set, Then, To, «Type», Until, Var, While, With, Identifier, Number, Plus, Minus, Times, Equal, NotEqual, Less, AtMost, Greater, AtLeast, Becomes, Period, Range, Comma, Semicolon, Colon, OpenRound, CloseRound, OpenSquare, CloseSquare, OpenCurly, CloseCurly}
 
 -- how a symbol with this tag is written, or what it is called where that differs from symbol to symbol
 abbrev pub spelt : Tag → List ℕ

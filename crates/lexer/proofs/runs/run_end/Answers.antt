@@ -1,6 +1,6 @@
 use borrow.Author.Needs.{needs}
-use Rattle.lexer.proofs.Runs.{run-in, run-out, run-all}
-use Rattle.lexer.proofs.characters.run_end.Needs as need
+use Rattle.lexer.proofs.RunEnds.{run-in, run-out, run-all}
+use Rattle.lexer.proofs.runs.run_end.Needs as need
 
 pub loop-at-again : need.loop-at-again
 loop-at-again c = search (needs, run-in)

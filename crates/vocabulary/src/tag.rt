@@ -1,5 +1,5 @@
 ghost use mathlib.Core.Path.{_≡_};
-ghost use Rattle.lexer.specs.Tags.{spelt};
+ghost use Rattle.vocabulary.specs.Tags.{spelt};
 
 /// What a symbol is: a reserved word, an identifier, a number or a sign.
 /// `&`, `~` and `<>` have the tags of AND, NOT and `#`.

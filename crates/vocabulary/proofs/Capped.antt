@@ -14,7 +14,7 @@ use Rattle.std.specs.declared.option.Option.{Option}
 use Rattle.std.specs.declared.option.Option.the-variants.{Some, None}
 use Rattle.std.specs.Options.{mapped}
 use Rattle.std.proofs.shelf.Lists.{at-drop-more, at-drop-all}
-use Rattle.lexer.specs.Numbers.{digitValue, digitsValue, beyond}
+use Rattle.vocabulary.specs.Numbers.{digitValue, digitsValue, beyond}
 
 abbrev pub held : ℕ → Option ℕ → Option ℕ
 held top v = mapped (λ n. min n top) v

@@ -1,8 +1,8 @@
 use mathlib.Core.Path.{_≡_}
 use Prim.Native.Nat.{_+_, _-_, _≤_}
 use lib.ListN.{length, drop}
-use Rattle.lexer.specs.Characters.{run}
-use Rattle.lexer.proofs.characters.run_end.Given as given
+use Rattle.vocabulary.specs.Characters.{run}
+use Rattle.lexer.proofs.runs.run_end.Given as given
 
 abbrev pub Inv-loop-at : given.InvT-loop-at
 Inv-loop-at l =

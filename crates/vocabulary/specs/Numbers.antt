@@ -13,7 +13,7 @@ use Rattle.std.specs.declared.result.Result.the-variants.{Ok, Err}
 use Rattle.faults.specs.declared.kind.FaultKind.{FaultKind}
 use Rattle.faults.specs.declared.kind.FaultKind.the-variants.{MalformedNumber, NumberTooLarge}
 use Rattle.integer.specs.Ends.{integer}
-use Rattle.lexer.specs.Characters.{digit}
+use Rattle.vocabulary.specs.Characters.{digit}
 
 -- what a digit stands for, A to F included; 16, which is below no base here, for any other byte
 abbrev pub digitValue : ℕ → ℕ

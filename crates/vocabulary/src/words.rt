@@ -1,5 +1,5 @@
 ghost use mathlib.Core.Path.{_≡_};
-ghost use Rattle.lexer.specs.Tags.{named, wordTag};
+ghost use Rattle.vocabulary.specs.Tags.{named, wordTag};
 use crate::tag::Tag;
 
 /// The forty reserved words.
@@ -59,7 +59,7 @@ fn tag_among(tags: &[Tag], word: &[u8]) -> Tag
 }
 
 /// The tag of a word: its own if it is reserved, else an identifier's.
-pub(crate) fn word_tag(word: &[u8]) -> Tag
+pub fn word_tag(word: &[u8]) -> Tag
     ensures { λ r. ⌜ r ≡ wordTag (now (word .entry)) ⌝ }
 {
     tag_among(&RESERVED, word)

@@ -5,8 +5,8 @@ use Prim.Native.Nat.{ℕ}
 use lib.Dec.{eqb}
 use Rattle.std.specs.declared.option.Option.{Option}
 use Rattle.std.specs.declared.option.Option.the-variants.{Some, None}
-use Rattle.lexer.specs.declared.tag.Tag.{Tag}
-use Rattle.lexer.specs.declared.tag.Tag.the-variants.{And, Not, Plus, Minus, Times, Equal, NotEqual, Less, AtMost, Greater, AtLeast, Becomes, Period, Range, Comma, Semicolon, Colon, OpenRound, CloseRound, OpenSquare, CloseSquare, OpenCurly, CloseCurly}
+use Rattle.vocabulary.specs.declared.tag.Tag.{Tag}
+use Rattle.vocabulary.specs.declared.tag.Tag.the-variants.{And, Not, Plus, Minus, Times, Equal, NotEqual, Less, AtMost, Greater, AtLeast, Becomes, Period, Range, Comma, Semicolon, Colon, OpenRound, CloseRound, OpenSquare, CloseSquare, OpenCurly, CloseCurly}
 
 -- the tag of the sign that one byte is: + - * & ~ = # < > . , ; : ( ) [ ] { }
 abbrev pub single : ℕ → Option Tag

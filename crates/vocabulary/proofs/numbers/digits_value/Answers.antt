@@ -1,8 +1,8 @@
 use mathlib.Core.Path.{sym, _∙_}
 use native.Mathlib.Omega.{arith}
-use Rattle.lexer.specs.Numbers.{beyond}
-use Rattle.lexer.proofs.Capped.{digit-more, digit-none, digit-all}
-use Rattle.lexer.proofs.numbers.digits_value.Needs as need
+use Rattle.vocabulary.specs.Numbers.{beyond}
+use Rattle.vocabulary.proofs.Capped.{digit-more, digit-none, digit-all}
+use Rattle.vocabulary.proofs.numbers.digits_value.Needs as need
 
 pub returns-then-digit-base : need.returns-then-digit-base
 returns-then-digit-base c =

@@ -2,8 +2,8 @@ use mathlib.Core.Path.{_≡_}
 use Prim.Native.Nat.{_≤_, min}
 use lib.ListN.{drop}
 use Rattle.std.specs.Options.{mapped}
-use Rattle.lexer.specs.Numbers.{digitsValue, beyond}
-use Rattle.lexer.proofs.numbers.digits_value.Given as given
+use Rattle.vocabulary.specs.Numbers.{digitsValue, beyond}
+use Rattle.vocabulary.proofs.numbers.digits_value.Given as given
 
 abbrev pub Inv-loop-c : given.InvT-loop-c
 Inv-loop-c l =

@@ -2,7 +2,7 @@ ghost use mathlib.Core.Path.{_≡_};
 ghost use Prim.Native.Nat.{_≤_};
 ghost use lib.ListN.{length};
 ghost use Rattle.std.specs.Options.{Cases as BySome};
-ghost use Rattle.lexer.specs.Signs.{single, signOf};
+ghost use Rattle.vocabulary.specs.Signs.{single, signOf};
 use crate::tag::Tag;
 
 /// The tag of the sign that one byte is.
@@ -34,7 +34,7 @@ fn single_sign(first: u8) -> Option<Tag>
 }
 
 /// The longest sign that the bytes begin with: its tag and its length.
-pub(crate) fn sign(rest: &[u8]) -> Option<(Tag, usize)>
+pub fn sign(rest: &[u8]) -> Option<(Tag, usize)>
     ensures is { λ r. ⌜ r ≡ signOf (now (rest .entry)) ⌝ }
     ensures room { λ r. ⌜ BySome r (Unit {0}) (λ p. p .1 ≤ length (now (rest .entry))) ⌝ }
 {

@@ -9,8 +9,8 @@ use Rattle.std.specs.declared.result.Result.{Result}
 use Rattle.std.specs.declared.result.Result.the-variants.{Err}
 use Rattle.faults.specs.declared.kind.FaultKind.{FaultKind}
 use Rattle.faults.specs.declared.kind.FaultKind.the-variants.{MalformedNumber}
-use Rattle.lexer.specs.Numbers.{numberValue, judged}
-use Rattle.lexer.proofs.numbers.number_value.Needs as need
+use Rattle.vocabulary.specs.Numbers.{numberValue, judged}
+use Rattle.vocabulary.proofs.numbers.number_value.Needs as need
 
 -- no text at all is no number
 nothing : (text : List ℕ) → length text < 1 → _≡_ {A = Result ℤ FaultKind} (Err MalformedNumber) (judged (numberValue text))

@@ -9,9 +9,9 @@ use Rattle.std.specs.shelf.Text.{sameBytes}
 use Rattle.std.proofs.shelf.Equals.{sameBytes-decides}
 use Rattle.std.proofs.shelf.Lists.{at-drop-more, at-drop-all}
 use borrow.Author.Needs.{needs}
-use Rattle.lexer.specs.declared.tag.Tag.{Tag}
-use Rattle.lexer.specs.declared.tag.Tag.the-variants.{EndOfSource, Identifier}
-use Rattle.lexer.specs.Tags.{spelt, named}
+use Rattle.vocabulary.specs.declared.tag.Tag.{Tag}
+use Rattle.vocabulary.specs.declared.tag.Tag.the-variants.{EndOfSource, Identifier}
+use Rattle.vocabulary.specs.Tags.{spelt, named}
 
 -- the answer of `==` is that of the definition's test
 pub tested : (xs ys : List ℕ) (r : Bool) → Decides r (xs ≡ ys) → sameBytes xs ys ≡ r

@@ -5,7 +5,7 @@ use mathlib.Core.Bool.{true, false}
 use Prim.Native.Nat.{ℕ, _+_, _<_, _≤_}
 use lib.ListN.{drop, length, getD}
 use Rattle.std.proofs.shelf.Lists.{at-drop-more, at-drop-all}
-use Rattle.lexer.specs.Characters.{run, alphanumeric}
+use Rattle.vocabulary.specs.Characters.{run, alphanumeric}
 
 pub run-in : (s : List ℕ) (i : ℕ) → i < length s → alphanumeric (getD s i 0) ≡ true → run (drop i s) ≡ 1 + run (drop (i + 1) s)
 run-in s i h e = at-drop-more run s i 0 h ∙ rw e refl

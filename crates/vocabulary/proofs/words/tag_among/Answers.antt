@@ -2,8 +2,8 @@ use mathlib.Core.Path.{_≡_, sym, ap, _∙_}
 use native.Mathlib.Omega.{arith}
 use Rattle.std.specs.shelf.Text.{sameBytes}
 use Rattle.std.proofs.shelf.Equals.{matches-decides}
-use Rattle.lexer.proofs.Naming.{tested, named-here, named-later, named-all}
-use Rattle.lexer.proofs.words.tag_among.Needs as need
+use Rattle.vocabulary.proofs.Naming.{tested, named-here, named-later, named-all}
+use Rattle.vocabulary.proofs.words.tag_among.Needs as need
 
 pub returns-then-eq : need.returns-then-eq
 returns-then-eq c =

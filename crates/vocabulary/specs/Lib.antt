@@ -1,0 +1,4 @@
+pub mod Tags
+pub mod Characters
+pub mod Numbers
+pub mod Signs
