@@ -4,6 +4,10 @@ pub mod Capped
 pub mod Skips
 pub mod Fronts
 pub mod Turns
+pub mod Walks
 pub mod Gaps
+pub mod Unclosed
 pub mod Longest
 pub mod Readings
+pub mod Unreadables
+pub mod Refusals

@@ -6,3 +6,4 @@ pub mod Leads
 pub mod Scan
 pub mod Records
 pub mod Reading
+pub mod Refusals

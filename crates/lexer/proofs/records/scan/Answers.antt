@@ -16,6 +16,7 @@ use Rattle.lexer.specs.declared.symbol.SymbolRecord.{SymbolRecord}
 use Rattle.lexer.specs.Scan.{symbolsOf, symbolLimit, byteLimit}
 use Rattle.lexer.specs.Records.{recorded, stored, scanning}
 use Rattle.lexer.proofs.Readings.{lawful}
+use Rattle.lexer.proofs.Refusals.{lawful-refusal}
 use Rattle.lexer.proofs.records.scan.Needs as need
 
 -- the lengths allow a scan
@@ -34,14 +35,14 @@ answered s before after (Ok n) h k o p =
 answered s before after (Err e) h k o p = absurd (search needs)
 
 pub returns-then-records-lt-MAX-SYMBOLS : need.returns-then-records-lt-MAX-SYMBOLS
-returns-then-records-lt-MAX-SYMBOLS c = record { answer = search needs; law = lawful _ }
+returns-then-records-lt-MAX-SYMBOLS c = record { answer = search needs; law = lawful _; refusal = lawful-refusal _ }
 
 pub returns-then-source-gt-MAX-BYTES : need.returns-then-source-gt-MAX-BYTES
-returns-then-source-gt-MAX-BYTES c = record { answer = search needs; law = lawful _ }
+returns-then-source-gt-MAX-BYTES c = record { answer = search needs; law = lawful _; refusal = lawful-refusal _ }
 
 pub returns-then-is-err : need.returns-then-is-err
-returns-then-is-err c = record { answer = search needs; law = lawful _ }
+returns-then-is-err c = record { answer = search needs; law = lawful _; refusal = lawful-refusal _ }
 
 pub returns-else-is-err : need.returns-else-is-err
 returns-else-is-err c =
-    record { answer = answered _ _ _ _ (omega arith) (omega arith) (search needs) (c .fill-answer .ensures); law = lawful _ }
+    record { answer = answered _ _ _ _ (omega arith) (omega arith) (search needs) (c .fill-answer .ensures); law = lawful _; refusal = lawful-refusal _ }
