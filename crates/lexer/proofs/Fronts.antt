@@ -32,6 +32,9 @@ none-some b e = let z : _≡_ {A = ℕ} 0 1 = cc in omega arith
 pub ok-same : {X Y : Type 0} {a b : X} → _≡_ {A = Result X Y} (Ok a) (Ok b) → a ≡ b
 ok-same e = cc
 
+pub err-same : {X Y : Type 0} {a b : Y} → _≡_ {A = Result X Y} (Err a) (Err b) → a ≡ b
+err-same e = cc
+
 pub err-ok : {X Y : Type 0} {y : Y} (b : X) → _≡_ {A = Result X Y} (Err y) (Ok b) → ⊥
 err-ok b e = let z : _≡_ {A = ℕ} 0 1 = cc in omega arith
 

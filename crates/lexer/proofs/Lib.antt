@@ -2,6 +2,10 @@ pub mod RunEnds
 pub mod Skips
 pub mod Fronts
 pub mod Turns
+pub mod Walks
 pub mod Gaps
+pub mod Unclosed
 pub mod Longest
 pub mod Readings
+pub mod Unreadables
+pub mod Refusals

@@ -8,7 +8,7 @@ use native.Mathlib.Numerals.{one-add}
 use native.Mathlib.Omega.{arith}
 use lib.Dec.{eqb, leb, leb→le}
 use lib.IntN.{ℤ, pos}
-use lib.Signed.{leZ-yes, _≤ℤ_}
+use lib.Signed.{leZ-yes}
 use lib.ListN.{length, take, getD}
 use Rattle.std.specs.declared.option.Option.{Option}
 use Rattle.std.specs.declared.option.Option.the-variants.{Some, None}
@@ -36,7 +36,7 @@ run-within (c ∷ cs) =
     let ih = run-within cs in
     elim (alphanumeric c) as (λ b. cond b (1 + run cs) 0 ≤ suc (length cs)) [ true ↦ omega arith | false ↦ omega arith ]
 
-pub run-more : (c : ℕ) (cs : List ℕ) → alphanumeric c ≡ true → run (c ∷ cs) ≡ suc (run cs)
+run-more : (c : ℕ) (cs : List ℕ) → alphanumeric c ≡ true → run (c ∷ cs) ≡ suc (run cs)
 run-more c cs e = rw (e, one-add (run cs)) refl
 
 run-none : (c : ℕ) (cs : List ℕ) → alphanumeric c ≡ false → run (c ∷ cs) ≡ 0
@@ -58,6 +58,13 @@ run-most (c ∷ cs) (suc n) h e =
     let ih = run-most cs n (omega arith) (p .1) in
     rw (run-more c cs (p .0)) (omega arith)
 
+pub run-over : (cs : List ℕ) (n : ℕ) → run cs < n → n ≤ length cs → allAlphanumeric (take n cs) ≡ false
+run-over cs n h k =
+    elim (cases-bool (allAlphanumeric (take n cs))) [
+      | inl e ↦ absurd (omega (arith, run-most cs n k e))
+      | inr e ↦ e
+    ]
+
 -- the symbol in front of bytes: its tag and its length
 pub record Longest (xs : List ℕ) (tag : Tag) (n : ℕ) : Type 0 where
   pub within : n ≤ length xs
@@ -71,16 +78,12 @@ only-some false tag t e = absurd (none-some t e)
 
 -- words and numbers: the first byte says that any run of letters and digits is one, with a tag by its text
 module _ (tagBy : List ℕ → Tag) (c : ℕ) (cs : List ℕ) (so : (ks : List ℕ) → symbolTag (c ∷ ks) ≡ only (allAlphanumeric ks) (tagBy (c ∷ ks))) where
-  run-tagged : symbolTag (c ∷ take (run cs) cs) ≡ Some (tagBy (c ∷ take (run cs) cs))
+  pub run-tagged : symbolTag (c ∷ take (run cs) cs) ≡ Some (tagBy (c ∷ take (run cs) cs))
   run-tagged = so (take (run cs) cs) ∙ rw (run-all cs) refl
 
   run-longest : (m : ℕ) → suc (run cs) < m → m ≤ suc (length cs) → symbolTag (take m (c ∷ cs)) ≡ None
   run-longest zero h k = absurd (omega arith)
-  run-longest (suc m) h k =
-      elim (cases-bool (allAlphanumeric (take m cs))) [
-        | inl e ↦ absurd (omega (arith, run-most cs m (omega arith) e))
-        | inr e ↦ so (take m cs) ∙ rw e refl
-      ]
+  run-longest (suc m) h k = so (take m cs) ∙ rw (run-over cs m (omega arith) (omega arith)) refl
 
   run-only : (tag : Tag) (n : ℕ) → Longest (c ∷ cs) tag n → (n ≡ suc (run cs)) × (tag ≡ tagBy (c ∷ take (run cs) cs))
   run-only tag zero l = absurd (none-some tag (l .tagged))
@@ -95,7 +98,7 @@ module _ (tagBy : List ℕ → Tag) (c : ℕ) (cs : List ℕ) (so : (ks : List �
       ]
 
 -- the classes of a first byte
-letter-no-digit : (c : ℕ) → letter c ≡ true → digit c ≡ true → ⊥
+pub letter-no-digit : (c : ℕ) → letter c ≡ true → digit c ≡ true → ⊥
 letter-no-digit c e k =
     let d = and-parts (leb 48 c) (leb c 57) k in
     elim (or-cases (leb 65 c && leb c 90) (leb 97 c && leb c 122) e) [
@@ -103,16 +106,16 @@ letter-no-digit c e k =
       | inr l ↦ let p = and-parts (leb 97 c) (leb c 122) l in grind (arith, tells)
     ]
 
-tag-word : (c : ℕ) → letter c ≡ true → (ks : List ℕ) → symbolTag (c ∷ ks) ≡ only (allAlphanumeric ks) (wordTag (c ∷ ks))
+pub tag-word : (c : ℕ) → letter c ≡ true → (ks : List ℕ) → symbolTag (c ∷ ks) ≡ only (allAlphanumeric ks) (wordTag (c ∷ ks))
 tag-word c e ks = rw e refl
 
-tag-number : (c : ℕ) → letter c ≡ false → digit c ≡ true → (ks : List ℕ) → symbolTag (c ∷ ks) ≡ only (allAlphanumeric ks) Number
+pub tag-number : (c : ℕ) → letter c ≡ false → digit c ≡ true → (ks : List ℕ) → symbolTag (c ∷ ks) ≡ only (allAlphanumeric ks) Number
 tag-number c l e ks = rw (l, e) refl
 
-pub tag-sign : (c : ℕ) → letter c ≡ false → digit c ≡ false → (ks : List ℕ) → symbolTag (c ∷ ks) ≡ signTag (c ∷ ks)
+tag-sign : (c : ℕ) → letter c ≡ false → digit c ≡ false → (ks : List ℕ) → symbolTag (c ∷ ks) ≡ signTag (c ∷ ks)
 tag-sign c l e ks = rw (l, e) refl
 
-front-word : (c : ℕ) (cs : List ℕ) → letter c ≡ true → frontOf (c ∷ cs) ≡ Ok (wordTag (c ∷ take (run cs) cs), suc (run cs))
+pub front-word : (c : ℕ) (cs : List ℕ) → letter c ≡ true → frontOf (c ∷ cs) ≡ Ok (wordTag (c ∷ take (run cs) cs), suc (run cs))
 front-word c cs e =
     let more = run-more c cs (or-left (letter c) (digit c) e) in
     cond-true (letter c) _ _ e ∙ ap {B = Result (Tag × ℕ) FaultKind} (λ r. Ok (wordTag (take r (c ∷ cs)), r)) more
@@ -126,13 +129,16 @@ pub front-sign : (c : ℕ) (cs : List ℕ) → letter c ≡ false → digit c �
 front-sign c cs l e = cond-false (letter c) _ _ l ∙ cond-false (digit c) _ _ e
 
 -- a number is accepted exactly if it stands for an INTEGER
-judged-by : (b : Bool) (n : ℕ) (z : ℤ) → leb n 32767 ≡ b → cond b (Ok (pos n)) (Err NumberTooLarge) ≡ Ok z → pos n ≤ℤ pos 32767
-judged-by true n z e k = leZ-yes (rw e tt)
+pub low-within : (n : ℕ) → leb n 32767 ≡ true → Within integer (pos n)
+low-within n e = (leZ-yes tt, leZ-yes (rw e tt))
+
+judged-by : (b : Bool) (n : ℕ) (z : ℤ) → leb n 32767 ≡ b → cond b (Ok (pos n)) (Err NumberTooLarge) ≡ Ok z → Within integer (pos n)
+judged-by true n z e k = low-within n e
 judged-by false n z e k = absurd (err-ok z k)
 
 judged-value : (o : Option ℕ) (z : ℤ) → judged o ≡ Ok z → (v : ℕ) × (o ≡ Some v) × Within integer (pos v)
 judged-value None z e = absurd (err-ok z e)
-judged-value (Some n) z e = (n, refl, (leZ-yes tt, judged-by (leb n 32767) n z refl e))
+judged-value (Some n) z e = (n, refl, judged-by (leb n 32767) n z refl e)
 
 value-judged : (n : ℕ) → Within integer (pos n) → judged (Some n) ≡ Ok (pos n)
 value-judged n w = rw (le-leb n 32767 (leb→le n 32767 (w .1 .le))) refl
@@ -219,7 +225,7 @@ longest-sign a (b ∷ cs) tag (suc (suc (suc n))) l =
 
 -- at a byte that is no letter and no digit there is a sign or nothing
 module _ (c : ℕ) (cs : List ℕ) (l : letter c ≡ false) (d : digit c ≡ false) where
-  sign-taken : (n : ℕ) → symbolTag (take n (c ∷ cs)) ≡ signTag (take n (c ∷ cs))
+  pub sign-taken : (n : ℕ) → symbolTag (take n (c ∷ cs)) ≡ signTag (take n (c ∷ cs))
   sign-taken zero = refl
   sign-taken (suc n) = tag-sign c l d (take n cs)
 
@@ -267,7 +273,7 @@ longest-front (c ∷ cs) tag n s =
     ]
 
 -- a separator is one of four bytes, and no symbol begins with it
-separator-is : (P : ℕ → Type 0) (c : ℕ) → separator c ≡ true → P 32 → P 9 → P 10 → P 13 → P c
+pub separator-is : (P : ℕ → Type 0) (c : ℕ) → separator c ≡ true → P 32 → P 9 → P 10 → P 13 → P c
 separator-is P c e p q r s =
     elim (or-cases (eqb c 32) _ e) [
       | inl h ↦ rw (eqb-true c 32 h) p

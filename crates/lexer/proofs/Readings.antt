@@ -17,10 +17,12 @@ use Rattle.vocabulary.specs.declared.tag.Tag.{Tag}
 use Rattle.vocabulary.specs.declared.tag.Tag.the-variants.{EndOfSource}
 use Rattle.vocabulary.specs.Characters.{separator}
 use Rattle.lexer.specs.Scan.{Found, endOf, ends, skipped, frontOf, placed, symbolAt, thence, symbolFrom, symbolsFrom, symbolLimit, onto}
-use Rattle.lexer.specs.Reading.{stretch, opening, symbolTag, Gap, IsSymbol, Reads, Lawful}
+use Rattle.lexer.specs.Reading.{stretch, opening, symbolTag, Gap, IsSymbol, ReadsTo, Reads, Lawful}
+use Rattle.lexer.specs.Reading.ReadsTo.{here, next}
 use Rattle.lexer.proofs.Fronts.{ok-same, err-ok, none-some, stretch-length, at-end}
 use Rattle.lexer.proofs.Turns.{faulty, ended, no-room, goes-on}
-use Rattle.lexer.proofs.Gaps.{walk, no-inner, skipped-sound, gap-skipped}
+use Rattle.lexer.proofs.Walks.{walk}
+use Rattle.lexer.proofs.Gaps.{no-inner, skipped-sound, gap-skipped}
 use Rattle.lexer.proofs.Longest.{Longest, front-longest, longest-front, longest-apart}
 
 -- a gap from one place to another, and no separator or comment behind it
@@ -32,18 +34,18 @@ pub record Between (s : List ℕ) (from to : ℕ) : Type 0 where
   pub apart : separator (getD (drop to s) 0 0) ≡ false
 
 -- the bytes from one place on are a stretch and the bytes behind it
-stretch-parts : (s : List ℕ) (from to : ℕ) → from ≤ to → drop from s ≡ stretch s from to ++ drop to s
+pub stretch-parts : (s : List ℕ) (from to : ℕ) → from ≤ to → drop from s ≡ stretch s from to ++ drop to s
 stretch-parts s from to h =
     let m : from + (to - from) ≡ to = omega arith in
     sym (take-append-drop (to - from) (drop from s)) ∙ ap (λ l. stretch s from to ++ l) (drop-drop (to - from) from s ∙ ap (λ n. drop n s) m)
 
 -- and where they are a gap and a rest, the stretch is the gap
-parts-stretch : (s : List ℕ) (from to : ℕ) (gap rest : List ℕ) → drop from s ≡ gap ++ rest → to ≡ from + length gap → (stretch s from to ≡ gap) × (drop to s ≡ rest)
+pub parts-stretch : (s : List ℕ) (from to : ℕ) (gap rest : List ℕ) → drop from s ≡ gap ++ rest → to ≡ from + length gap → (stretch s from to ≡ gap) × (drop to s ≡ rest)
 parts-stretch s from to gap rest e n =
     let m : length gap ≡ to - from = omega arith in
     (ap (take (to - from)) e ∙ take-at gap rest (to - from) m, ap (λ k. drop k s) n ∙ sym (drop-drop (length gap) from s) ∙ ap (drop (length gap)) e ∙ drop-at gap rest (length gap) refl)
 
-skipped-between : (s : List ℕ) (from to opened : ℕ) → from ≤ length s → skipped 0 opened from (drop from s) ≡ Ok to → Between s from to
+pub skipped-between : (s : List ℕ) (from to opened : ℕ) → from ≤ length s → skipped 0 opened from (drop from s) ≡ Ok to → Between s from to
 skipped-between s from to opened h e =
     let k = skipped-sound (walk (drop from s) 0) opened from to e in
     let none = no-inner (k .comments) in
@@ -51,11 +53,11 @@ skipped-between s from to opened h e =
     let n : to ≡ from + length (k .gap) = omega (arith, ap length none) in
     let size = simp (length-drop, length-append) at (ap length parts) in
     let p = parts-stretch s from to (k .gap) (k .rest) parts n in
-    record { order = omega arith; within = omega arith; gap = rw (p .0) (k .blanks); bare = rw (p .1) (k .bare); apart = rw (p .1) (k .apart) }
+    record { order = omega arith; within = omega arith; gap = rw (p .0) (k .blanks); bare = rw (p .1) (k .behind .0); apart = rw (p .1) (k .behind .1) }
 
 between-skipped : (s : List ℕ) (from to opened : ℕ) → Between s from to → skipped 0 opened from (drop from s) ≡ Ok to
 between-skipped s from to opened b =
-    ap (skipped 0 opened from) (stretch-parts s from to (b .order)) ∙ gap-skipped (b .gap) opened from (drop to s) (b .bare) (b .apart) ∙ ap Ok (sym (stretch-length s from to (b .order) (b .within)))
+    ap (skipped 0 opened from) (stretch-parts s from to (b .order)) ∙ gap-skipped (b .gap) opened from (drop to s) (b .bare, b .apart) ∙ ap Ok (sym (stretch-length s from to (b .order) (b .within)))
 
 -- the symbol at a place is the longest in front of the bytes from there on
 text-taken : (s : List ℕ) (f : Found) → IsSymbol s f → f .text ≡ take (length (f .text)) (drop (f .place) s)
@@ -104,10 +106,10 @@ text-positive : (xs : List ℕ) (tag : Tag) → symbolTag xs ≡ Some tag → 0 
 text-positive [] tag e = absurd (none-some tag e)
 text-positive (x ∷ xs) tag e = omega arith
 
-symbol-text : (s : List ℕ) (f : Found) → IsSymbol s f → ends f ≡ false
+pub symbol-text : (s : List ℕ) (f : Found) → IsSymbol s f → ends f ≡ false
 symbol-text s f i = let p = text-positive (f .text) (f .tag) (i .tagged) in ne-eqb (length (f .text)) 0 (omega arith)
 
-from-here : (s : List ℕ) (from : ℕ) → from ≤ length s → symbolFrom s from ≡ thence s (skipped 0 0 from (drop from s))
+pub from-here : (s : List ℕ) (from : ℕ) → from ≤ length s → symbolFrom s from ≡ thence s (skipped 0 0 from (drop from s))
 from-here s from h =
     let m : min from (length s) ≡ from = omega arith in
     ap (λ n. thence s (skipped 0 0 n (drop n s))) m
@@ -116,7 +118,7 @@ thence-ok : (s : List ℕ) (r : Result ℕ Fault) (f : Found) → thence s r ≡
 thence-ok s (Ok at) f e = (at, refl, e)
 thence-ok s (Err k) f e = absurd (err-ok f e)
 
-between-from : (s : List ℕ) (from to : ℕ) → Between s from to → symbolFrom s from ≡ symbolAt s to
+pub between-from : (s : List ℕ) (from to : ℕ) → Between s from to → symbolFrom s from ≡ symbolAt s to
 between-from s from to b =
     let h : from ≤ length s = omega arith in
     from-here s from h ∙ ap (thence s) (between-skipped s from to 0 b)
@@ -127,7 +129,7 @@ from-between s from f h e =
     (t .0, skipped-between s from (t .0) 0 h (t .1), t .2)
 
 -- the first symbol at a place or behind it is the end, with only a gap before it, or the next symbol
-from-follows : (s : List ℕ) (from : ℕ) (f : Found) → from ≤ length s → symbolFrom s from ≡ Ok f → ((ends f ≡ true) × Gap (stretch s from (length s))) ⊎ Follows s from f
+pub from-follows : (s : List ℕ) (from : ℕ) (f : Found) → from ≤ length s → symbolFrom s from ≡ Ok f → ((ends f ≡ true) × Gap (stretch s from (length s))) ⊎ Follows s from f
 from-follows s from f h e =
     let b = from-between s from f h e in
     elim (cases-lt (b .0) (length s)) [
@@ -139,7 +141,7 @@ from-follows s from f h e =
           inl (ap ends (sym (ok-same (sym (at-end s (b .0) l) ∙ b .2))), rw n at (b .1 .gap))
     ]
 
-follows-from : (s : List ℕ) (from : ℕ) (f : Found) → Follows s from f → symbolFrom s from ≡ Ok f
+pub follows-from : (s : List ℕ) (from : ℕ) (f : Found) → Follows s from f → symbolFrom s from ≡ Ok f
 follows-from s from f w =
     let b : Between s from (f .place) = record { order = w .order; within = omega (arith, w .symbol .inside); gap = w .gap; bare = w .symbol .bare; apart = longest-apart _ _ _ (symbol-longest s f (w .symbol)) } in
     between-from s from (f .place) b ∙ symbol-at s f (w .symbol)
@@ -163,7 +165,7 @@ onto-ok f (Ok more) fs e = (more, refl, ok-same e)
 onto-ok f (Err k) fs e = absurd (err-ok fs e)
 
 reads-none : (s : List ℕ) (from room : ℕ) (fs : List Found) → (fs ≡ []) × Gap (stretch s from (length s)) → Reads s from fs × (length fs ≤ room)
-reads-none s from room fs o = rw (o .0) (Reads.end (o .1), omega arith)
+reads-none s from room fs o = rw (o .0) (record { upTo = from; symbols = here; rest = o .1 }, omega arith)
 
 symbols-read : (room : ℕ) (s : List ℕ) (from : ℕ) (fs : List Found) → from ≤ length s → symbolsFrom room s from ≡ Ok fs → Reads s from fs × (length fs ≤ room)
 symbols-read zero s from fs h e =
@@ -179,15 +181,16 @@ symbols-read (suc room) s from fs h e =
           let g = rw m at (goes-on (suc room) s from (t .0) (omega arith) (t .1) (symbol-text s (t .0) (t .2 .symbol))) in
           let o = onto-ok (t .0) (symbolsFrom room s (endOf (t .0))) fs (sym g ∙ e) in
           let r = symbols-read room s (endOf (t .0)) (o .0) (t .2 .symbol .inside) (o .1) in
-          rw (← o .2) (Reads.next (t .2 .order) (t .2 .gap) (t .2 .symbol) (r .0), omega (arith, r .1))
+          rw (← o .2) (record { upTo = r .0 .upTo; symbols = next (t .2 .order) (t .2 .gap) (t .2 .symbol) (r .0 .symbols); rest = r .0 .rest }, omega (arith, r .1))
     ]
 
-read-symbols : {s : List ℕ} {from : ℕ} {fs : List Found} → Reads s from fs → from ≤ length s → (room : ℕ) → length fs ≤ room → symbolsFrom room s from ≡ Ok fs
-read-symbols {s} (Reads.end {from} g) h room k = ended room s from _ (end-from s from h g) refl
-read-symbols {s} (Reads.next {from} {f} {fs} o g i r) h room k =
-    let w : Follows s from f = record { order = o; gap = g; symbol = i } in
-    goes-on room s from f (omega arith) (follows-from s from f w) (symbol-text s f i) ∙ ap (onto f) (read-symbols r (i .inside) (room - 1) (omega arith))
+read-symbols : {s : List ℕ} {from : ℕ} {fs : List Found} {to : ℕ} → ReadsTo s from fs to → Gap (stretch s to (length s)) → from ≤ length s → (room : ℕ) → length fs ≤ room → symbolsFrom room s from ≡ Ok fs
+read-symbols {s} {from} here g h room k = ended room s from _ (end-from s from h g) refl
+read-symbols {s} (next {from} {to} {f} {fs} o p i r) g h room k =
+    let w : Follows s from f = record { order = o; gap = p; symbol = i } in
+    goes-on room s from f (omega arith) (follows-from s from f w) (symbol-text s f i) ∙ ap (onto f) (read-symbols r g (i .inside) (room - 1) (omega arith))
 
 -- the law
 pub lawful : (s : List ℕ) → Lawful s
-lawful s = record { sound = λ fs e. symbols-read symbolLimit s 0 fs (omega arith) e; complete = λ fs r h. read-symbols r (omega arith) symbolLimit h }
+lawful s =
+    record { sound = λ fs e. symbols-read symbolLimit s 0 fs (omega arith) e; complete = λ fs r h. read-symbols (r .symbols) (r .rest) (omega arith) symbolLimit h }

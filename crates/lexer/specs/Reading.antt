@@ -81,10 +81,16 @@ pub record IsSymbol (s : List ℕ) (f : Found) : Type 0 where
   -- a number stands for an INTEGER
   pub valued : digit (getD (f .text) 0 0) ≡ true → (n : ℕ) × (numberValue (f .text) ≡ Some n) × Within integer (pos n)
 
+-- these symbols, and no others, are read from one place up to another
+pub data ReadsTo (s : List ℕ) : ℕ → List Found → ℕ → Type 0 where
+  here : {from : ℕ} → ReadsTo s from [] from
+  next : {from to : ℕ} {f : Found} {fs : List Found} → from ≤ f .place → Gap (stretch s from (f .place)) → IsSymbol s f → ReadsTo s (endOf f) fs to → ReadsTo s from (f ∷ fs) to
+
 -- these symbols, and no others, are read from the place `from` to the end of the source
-pub data Reads (s : List ℕ) : ℕ → List Found → Type 0 where
-  end : {from : ℕ} → Gap (stretch s from (length s)) → Reads s from []
-  next : {from : ℕ} {f : Found} {fs : List Found} → from ≤ f .place → Gap (stretch s from (f .place)) → IsSymbol s f → Reads s (endOf f) fs → Reads s from (f ∷ fs)
+pub record Reads (s : List ℕ) (from : ℕ) (fs : List Found) : Type 0 where
+  pub upTo : ℕ
+  pub symbols : ReadsTo s from fs upTo
+  pub rest : Gap (stretch s upTo (length s))
 
 -- the symbols of a source are those that are read from its start, if they are not too many
 pub record Lawful (s : List ℕ) : Type 0 where

@@ -7,6 +7,7 @@ ghost use Rattle.std.specs.Results.{Cases as ByOk};
 ghost use Rattle.lexer.specs.Scan.{seen, symbolsOf, symbolLimit, byteLimit, tagOf, textOf, isEnd};
 ghost use Rattle.lexer.specs.Records.{recorded, stored, scanning, kept};
 ghost use Rattle.lexer.specs.Reading.{Lawful};
+ghost use Rattle.lexer.specs.Refusals.{LawfulRefusal};
 use crate::next::next_symbol;
 use crate::symbol::Lexeme;
 use crate::symbol::Symbol;
@@ -81,6 +82,7 @@ fn refused(records: &mut [SymbolRecord], fault: Fault) -> Result<usize, Fault>
 pub fn scan(source: &[u8], records: &mut [SymbolRecord]) -> Result<usize, Fault>
     ensures answer { λ r. ⌜ (r, now (records .exit)) ≡ scanning (now (source .entry)) (now (records .entry)) ⌝ }
     ensures law { λ _. ⌜ Lawful (now (source .entry)) ⌝ }
+    ensures refusal { λ _. ⌜ LawfulRefusal (now (source .entry)) ⌝ }
 {
     if records.len() < MAX_SYMBOLS {
         return Err(Fault {
