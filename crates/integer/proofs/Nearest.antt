@@ -1,0 +1,20 @@
+-- What is held between two ends is nearest to the number that it came from.
+use mathlib.Core.Path.{_≡_, subst, sym}
+use native.Mathlib.Omega.{arith}
+use lib.IntN.{ℤ}
+use lib.Signed.{_≤ℤ_}
+use Rattle.std.proofs.shelf.Signed.{ints}
+use Rattle.integer.specs.Bands.{Nearest, Held-is-nearest}
+use Rattle.integer.specs.Ends.{Ends, held}
+
+pub held-nearest : Held-is-nearest
+held-nearest e z h = record {
+  inside = grind (arith, ints);
+  same = grind (arith, ints);
+  below = grind (arith, ints);
+  above = grind (arith, ints);
+  least = grind (arith, ints);
+}
+
+pub nearest-at : (e : Ends) (z r : ℤ) → e .low ≤ℤ e .high → r ≡ held e z → Nearest e z r
+nearest-at e z r h is = subst (Nearest e z) (sym is) (held-nearest e z h)
