@@ -1,1 +1,3 @@
+pub mod Euclid
 pub mod Nearest
+pub mod Wide

@@ -1,6 +1,8 @@
 // INTEGER arithmetic: range-checked operations, the division pair, bands, and sets as sums of powers of two.
 pub mod arithmetic;
 pub mod bands;
+pub mod division;
+pub mod laws;
 
 pub use arithmetic::absolute;
 pub use arithmetic::add;
@@ -9,6 +11,7 @@ pub use arithmetic::negate;
 pub use arithmetic::subtract;
 pub use bands::clamp;
 pub use bands::saturate;
+pub use division::divide;
 
 /// The least INTEGER.
 pub const LOWEST: i32 = -32768;
