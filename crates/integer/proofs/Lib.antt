@@ -1,3 +1,5 @@
+pub mod Between
 pub mod Euclid
-pub mod Nearest
+pub mod Powers
 pub mod Wide
+pub mod Words

@@ -3,6 +3,9 @@ pub mod arithmetic;
 pub mod bands;
 pub mod division;
 pub mod laws;
+pub mod sets;
+#[cfg(test)]
+mod tests;
 
 pub use arithmetic::absolute;
 pub use arithmetic::add;
@@ -12,6 +15,14 @@ pub use arithmetic::subtract;
 pub use bands::clamp;
 pub use bands::saturate;
 pub use division::divide;
+pub use laws::laws_hold;
+pub use sets::contains;
+pub use sets::difference;
+pub use sets::exclude;
+pub use sets::include;
+pub use sets::intersection;
+pub use sets::range;
+pub use sets::union;
 
 /// The least INTEGER.
 pub const LOWEST: i32 = -32768;

@@ -1,7 +1,7 @@
 use borrow.Author.Needs.{needs}
 use lib.Signed.{leZ-yes}
 use Rattle.integer.specs.Ends.{integer}
-use Rattle.integer.proofs.Nearest.{nearest-at}
+use Rattle.integer.proofs.Between.{nearest-at}
 use Rattle.integer.proofs.bands.saturate.Needs as need
 
 pub returns-then-x-2 : need.returns-then-x-2
