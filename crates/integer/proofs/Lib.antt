@@ -1,0 +1,5 @@
+pub mod Between
+pub mod Euclid
+pub mod Powers
+pub mod Wide
+pub mod Words
