@@ -1,10 +1,19 @@
 // Division of INTEGERs: quotient and remainder as one pair.
 ghost use mathlib.Core.Path.{_≡_};
 ghost use lib.IntN.{ℤ, pos};
-ghost use lib.Signed.{_<ℤ_};
+ghost use lib.Signed.{_≤ℤ_, _<ℤ_};
+ghost use Rattle.std.specs.Numbers.{divEuclid};
 ghost use Rattle.std.specs.Options.{Cases};
 ghost use Rattle.std.specs.declared.option.Option.the-variants.{Some};
 ghost use Rattle.integer.specs.Division.{divided, Divides};
+
+// The quotient of x by y, rounded down.
+fn quotient_of(x: i32, y: i32) -> i32
+    requires { ⌜ pos 1 ≤ℤ y ⌝ }
+    ensures { λ r. ⌜ r ≡ divEuclid x y ⌝ }
+{
+    x.div_euclid(y)
+}
 
 /// Quotient and remainder of x by y, the quotient rounded down, or none if y is below 1.
 pub fn divide(x: i32, y: i32) -> Option<(i32, i32)>
@@ -15,7 +24,7 @@ pub fn divide(x: i32, y: i32) -> Option<(i32, i32)>
     if y < 1 {
         return None;
     }
-    let quotient = x.div_euclid(y);
+    let quotient = quotient_of(x, y);
     // quotient * y can pass the ends of an i32
     let remainder = x as i64 - quotient as i64 * y as i64;
     Some((quotient, remainder as i32))

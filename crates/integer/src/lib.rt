@@ -4,8 +4,6 @@ pub mod bands;
 pub mod division;
 pub mod laws;
 pub mod sets;
-#[cfg(test)]
-mod tests;
 
 pub use arithmetic::absolute;
 pub use arithmetic::add;

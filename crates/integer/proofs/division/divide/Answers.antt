@@ -15,22 +15,22 @@ use Rattle.integer.proofs.Wide.{wide, wide-rest}
 use Rattle.integer.proofs.division.divide.Needs as need
 
 -- the remainder as it is calculated
-abbrev rest : need.After-div-euclid-quotient → ℤ
-rest c = wide (c .args .x) -ℤ toZ w64 (ofZ w64 (wide (c .div-euclid-quotient .result) *ℤ wide (c .args .y)))
+abbrev rest : need.After-quotient-of-quotient → ℤ
+rest c = wide (c .args .x) -ℤ toZ w64 (ofZ w64 (wide (c .quotient-of-quotient .result) *ℤ wide (c .args .y)))
 
-at-least-one : (c : need.After-div-euclid-quotient) → pos 1 ≤ℤ c .args .y
+at-least-one : (c : need.After-quotient-of-quotient) → pos 1 ≤ℤ c .args .y
 at-least-one c = search needs
 
-quotient-is : (c : need.After-div-euclid-quotient) → c .div-euclid-quotient .result ≡ divEuclid (c .args .x) (c .args .y)
-quotient-is c = rw (toZ-ofZ w32 (c .args .x) (c .fits .x), toZ-ofZ w32 (c .args .y) (c .fits .y)) at (c .div-euclid-quotient .ensures)
+quotient-is : (c : need.After-quotient-of-quotient) → c .quotient-of-quotient .result ≡ divEuclid (c .args .x) (c .args .y)
+quotient-is c = rw (toZ-ofZ w32 (c .args .x) (c .fits .x), toZ-ofZ w32 (c .args .y) (c .fits .y)) at (c .quotient-of-quotient .ensures)
 
-lawful : (c : need.After-div-euclid-quotient) → Divides (c .args .x) (c .args .y) (c .div-euclid-quotient .result, rest c)
+lawful : (c : need.After-quotient-of-quotient) → Divides (c .args .x) (c .args .y) (c .quotient-of-quotient .result, rest c)
 lawful c =
-    let q : SFits w32 (c .div-euclid-quotient .result) = search needs in
-    let e = wide-rest (c .args .x) (c .args .y) (c .div-euclid-quotient .result) (c .fits .x) (c .fits .y) q in
+    let q : SFits w32 (c .quotient-of-quotient .result) = search needs in
+    let e = wide-rest (c .args .x) (c .args .y) (c .quotient-of-quotient .result) (c .fits .x) (c .fits .y) q in
     rw (e, quotient-is c) (paired-divides (c .args .x) (c .args .y) (at-least-one c))
 
-rest-fits : (c : need.After-div-euclid-quotient) → SFits w32 (rest c)
+rest-fits : (c : need.After-quotient-of-quotient) → SFits w32 (rest c)
 rest-fits c = let h = lawful c .1 in let k = lawful c .2 in let f = c .fits .y in omega (arith, ints)
 
 pub sub-remainder : need.sub-remainder
@@ -40,16 +40,16 @@ pub cast-result : need.cast-result
 cast-result c = let f = rest-fits c in omega (arith, ints)
 
 -- the pair as it is answered
-abbrev pair : need.After-div-euclid-quotient → ℤ × ℤ
-pair c = (toZ w32 (ofZ w32 (c .div-euclid-quotient .result)), toZ w32 (ofZ w32 (toZ w64 (ofZ w64 (rest c)))))
+abbrev pair : need.After-quotient-of-quotient → ℤ × ℤ
+pair c = (toZ w32 (ofZ w32 (c .quotient-of-quotient .result)), toZ w32 (ofZ w32 (toZ w64 (ofZ w64 (rest c)))))
 
-pair-lawful : (c : need.After-div-euclid-quotient) → Divides (c .args .x) (c .args .y) (pair c)
+pair-lawful : (c : need.After-quotient-of-quotient) → Divides (c .args .x) (c .args .y) (pair c)
 pair-lawful c =
     let f = rest-fits c in
-    let g : SFits w32 (c .div-euclid-quotient .result) = search needs in
-    let q : pair c .0 ≡ c .div-euclid-quotient .result = omega (arith, ints) in
+    let g : SFits w32 (c .quotient-of-quotient .result) = search needs in
+    let q : pair c .0 ≡ c .quotient-of-quotient .result = omega (arith, ints) in
     let r : pair c .1 ≡ rest c = omega (arith, ints) in
-    divides-at (c .args .x) (c .args .y) (pair c) (c .div-euclid-quotient .result, rest c) q r (lawful c)
+    divides-at (c .args .x) (c .args .y) (pair c) (c .quotient-of-quotient .result, rest c) q r (lawful c)
 
 pub returns : need.returns
 returns c =

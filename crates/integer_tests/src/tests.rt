@@ -1,4 +1,20 @@
-use super::*;
+use integer::HIGHEST;
+use integer::LOWEST;
+use integer::absolute;
+use integer::add;
+use integer::clamp;
+use integer::contains;
+use integer::difference;
+use integer::divide;
+use integer::exclude;
+use integer::include;
+use integer::intersection;
+use integer::multiply;
+use integer::negate;
+use integer::range;
+use integer::saturate;
+use integer::subtract;
+use integer::union;
 use std::test::*;
 
 #[test]

@@ -1,0 +1,3 @@
+// Worked examples of INTEGER arithmetic.
+#[cfg(test)]
+mod tests;
