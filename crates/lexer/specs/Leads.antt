@@ -7,13 +7,15 @@ use Rattle.lexer.specs.declared.symbol.Lead.{Lead}
 use Rattle.lexer.specs.declared.symbol.Lead.the-variants.{Done, Open, Nest, Close, Pass, Stop}
 use Rattle.vocabulary.specs.Characters.{separator}
 
--- the two bytes that open a comment, and the two that close it
+-- the two bytes that open a comment
 abbrev pub opens : ℕ → ℕ → Bool
 opens a b = eqb a 40 && eqb b 42
 
+-- the two bytes that close it
 abbrev pub closes : ℕ → ℕ → Bool
 closes a b = eqb a 42 && eqb b 41
 
+-- a byte that is passed over: any inside of a comment, a separator outside
 abbrev pub passing : Bool → ℕ → Lead
 passing inside a = cond (inside || separator a) Pass Stop
 

@@ -34,7 +34,7 @@ pub record Found : Type 0 where
 abbrev pub endOf : Found → ℕ
 endOf f = f .place + length (f .text)
 
--- what the code's symbol is of these
+-- the tag of the code's symbol
 abbrev pub tagOf : Symbol → Tag
 tagOf (cases.Reserved tag text) = tag
 tagOf (cases.Identifier text) = Identifier
@@ -42,6 +42,7 @@ tagOf (cases.Number text) = Number
 tagOf (cases.Sign tag text) = tag
 tagOf cases.End = EndOfSource
 
+-- the stretch that the code's symbol borrows
 abbrev pub textOf : Symbol → List ℕ
 textOf (cases.Reserved tag text) = now text
 textOf (cases.Identifier text) = now text
@@ -49,6 +50,7 @@ textOf (cases.Number text) = now text
 textOf (cases.Sign tag text) = now text
 textOf cases.End = []
 
+-- the code's symbol is the end of the source
 abbrev pub isEnd : Symbol → Bool
 isEnd (cases.Reserved tag text) = false
 isEnd (cases.Identifier text) = false
@@ -56,9 +58,11 @@ isEnd (cases.Number text) = false
 isEnd (cases.Sign tag text) = false
 isEnd cases.End = true
 
+-- what the code's lexeme stands for
 abbrev pub seen : Lexeme → Found
 seen l = record { tag = tagOf (l .symbol); place = l .place; text = textOf (l .symbol) }
 
+-- a fault of a kind, at a place
 abbrev pub fault : FaultKind → ℕ → Fault
 fault kind place = record { kind = kind; place = place }
 
@@ -72,10 +76,12 @@ skipped depth opened at (a ∷ (b ∷ cs)) =
     (cond (ltb 0 depth && closes a b) (skipped (depth - 1) opened (at + 2) cs)
     (cond (ltb 0 depth || separator a) (skipped depth opened (at + 1) (b ∷ cs)) (Ok at)))
 
+-- a number n bytes long, if its value is an INTEGER
 abbrev pub numbered : ℕ → Result ℤ FaultKind → Result (Tag × ℕ) FaultKind
 numbered n (Ok v) = Ok (Number, n)
 numbered n (Err kind) = Err kind
 
+-- a sign, if there is one
 abbrev pub signed : Option (Tag × ℕ) → Result (Tag × ℕ) FaultKind
 signed (Some p) = Ok p
 signed None = Err StrayByte
@@ -88,6 +94,7 @@ frontOf (c ∷ cs) =
     (cond (digit c) (numbered (run (c ∷ cs)) (judged (numberValue (take (run (c ∷ cs)) (c ∷ cs)))))
     (signed (signOf (c ∷ cs))))
 
+-- the symbol or the fault at its place, the symbol with its text
 abbrev pub placed : ℕ → List ℕ → Result (Tag × ℕ) FaultKind → Result Found Fault
 placed at xs (Ok p) = Ok (record { tag = p .0; place = at; text = take (p .1) xs })
 placed at xs (Err kind) = Err (fault kind at)
@@ -96,6 +103,7 @@ placed at xs (Err kind) = Err (fault kind at)
 abbrev pub symbolAt : List ℕ → ℕ → Result Found Fault
 symbolAt s at = placed at (drop at s) (frontOf (drop at s))
 
+-- the symbol at the place that was reached
 abbrev pub thence : List ℕ → Result ℕ Fault → Result Found Fault
 thence s (Ok at) = symbolAt s at
 thence s (Err e) = Err e
@@ -108,14 +116,17 @@ symbolFrom s from = thence s (skipped 0 0 (min from (length s)) (drop (min from 
 abbrev pub ends : Found → Bool
 ends f = eqb (length (f .text)) 0
 
+-- a symbol before the others
 abbrev pub onto : Found → Result (List Found) Fault → Result (List Found) Fault
 onto f (Ok more) = Ok (f ∷ more)
 onto f (Err e) = Err e
 
+-- where no more symbols are allowed, only the end may come
 abbrev pub full : Result Found Fault → Result (List Found) Fault
 full (Ok f) = cond (ends f) (Ok []) (Err (fault TooManySymbols (f .place)))
 full (Err e) = Err e
 
+-- the end, or a symbol and those behind it
 abbrev pub followed : Result Found Fault → (Found → Result (List Found) Fault) → Result (List Found) Fault
 followed (Ok f) more = cond (ends f) (Ok []) (onto f (more f))
 followed (Err e) more = Err e
@@ -125,10 +136,11 @@ unfoldable pub symbolsFrom : ℕ → List ℕ → ℕ → Result (List Found) Fa
 symbolsFrom zero s from = full (symbolFrom s from)
 symbolsFrom (suc room) s from = followed (symbolFrom s from) (λ f. symbolsFrom room s (endOf f))
 
--- at most so many symbols, and so many bytes
+-- a source has at most so many symbols
 abbrev pub symbolLimit : ℕ
 symbolLimit = 1024
 
+-- and so many bytes
 abbrev pub byteLimit : ℕ
 byteLimit = 65535
 

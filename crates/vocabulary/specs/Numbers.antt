@@ -29,6 +29,7 @@ digitsValue base before (c ∷ cs) =
 abbrev pub baseBy : ℕ → ℕ
 baseBy last = cond (eqb last 66) 8 (cond (eqb last 72) 16 10)
 
+-- the base of a number
 abbrev pub baseOf : List ℕ → ℕ
 baseOf text = baseBy (getD text (length text - 1) 0)
 

@@ -47,10 +47,12 @@ signTag (a ∷ []) = single a
 signTag (a ∷ (b ∷ [])) = double a b
 signTag (a ∷ (b ∷ (c ∷ cs))) = None
 
+-- a sign of two bytes, else the other
 abbrev pub wide : Option Tag → Option (Tag × ℕ) → Option (Tag × ℕ)
 wide (Some tag) other = Some (tag, 2)
 wide None other = other
 
+-- a sign of one byte
 abbrev pub narrow : Option Tag → Option (Tag × ℕ)
 narrow (Some tag) = Some (tag, 1)
 narrow None = None
