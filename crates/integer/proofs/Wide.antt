@@ -15,6 +15,11 @@ wide z = toZ w64 (ofZ w64 (toZ w32 (ofZ w32 z)))
 pub wide-is : (z : ℤ) → SFits w32 z → wide z ≡ z
 wide-is z f = omega (arith, ints)
 
+-- `x as i64 - y as i64`
+pub wide-difference : (x y : ℤ) → SFits w32 x → SFits w32 y → toZ w64 (ofZ w64 (wide x -ℤ wide y)) ≡ x -ℤ y
+wide-difference x y f g =
+    ap (λ z. toZ w64 (ofZ w64 z)) (ap₂ _-ℤ_ (wide-is x f) (wide-is y g)) ∙ omega (arith, ints)
+
 product-fits : (x y : ℤ) → SFits w32 x → SFits w32 y → SFits w64 (x *ℤ y)
 product-fits (pos a) (pos b) f g = omega (arith, ints, mul-le a b (2 ^ 31) (2 ^ 31) (omega (arith, ints)) (omega (arith, ints)))
 product-fits (pos a) (negsuc b) f g = omega (arith, ints, mul-le a (suc b) (2 ^ 31) (2 ^ 31) (omega (arith, ints)) (omega (arith, ints)))

@@ -63,42 +63,25 @@ fn answer(rt: &LibcRuntime, line: &str, source: &[u8]) -> io::Result<()> {
     }
 }
 
-// What a list of 1,023 records holds after it was refused: what it held before.
-fn short_list(rt: &LibcRuntime) -> io::Result<()> {
-    let mut records = [SymbolRecord {
+// What a list of so many records, each at place 7, holds at its ends after a scan.
+fn held_after(rt: &LibcRuntime, size: usize, source: &[u8]) -> io::Result<()> {
+    let mut records = vec![in rt.alloc(); SymbolRecord {
         tag: Tag::Comma,
-        place: 7,
-    }; 1023];
-    if let Err(fault) = scan(b"a", &mut records) {
+        place: 7
+    }; size]?;
+    if let Err(fault) = scan(source, &mut records) {
         let number = fault.kind.number();
         let place = fault.place;
-        let first = records[0].place;
-        let last = records[1022].place;
-        println!(
-            rt,
-            "1023 records => refused {number} at {place}, still {first} and {last}"
-        )?;
+        print!(rt, "{size} records => refused {number} at {place}, then")?;
     }
-    Ok(())
-}
-
-// What a list holds after a fault behind its first symbol: nothing, to its last record.
-fn zeroed_list(rt: &LibcRuntime) -> io::Result<()> {
-    let mut records = [SymbolRecord {
-        tag: Tag::Comma,
-        place: 7,
-    }; 1025];
-    if let Err(fault) = scan(b" a ?", &mut records) {
-        let number = fault.kind.number();
-        let place = fault.place;
-        let first = records[0].place;
-        let last = records[1024].place;
-        println!(
-            rt,
-            "1025 records => refused {number} at {place}, now {first} and {last}"
-        )?;
+    for record in records
+        .iter()
+        .take(1)
+        .chain(records.iter().skip(size - size.min(1))) {
+        let place = record.place;
+        print!(rt, " {place}")?;
     }
-    Ok(())
+    println!(rt, "")
 }
 
 fn main(rt: LibcRuntime) -> io::Result<()> {
@@ -109,6 +92,6 @@ fn main(rt: LibcRuntime) -> io::Result<()> {
             answer(&rt, line.as_str(), &source)?;
         }
     }
-    short_list(&rt)?;
-    zeroed_list(&rt)
+    held_after(&rt, MAX_SYMBOLS - 1, b"a")?;
+    held_after(&rt, MAX_SYMBOLS + 1, b" a ?")
 }

@@ -1,0 +1,7 @@
+use mathlib.Core.Path.{_∙_, ap}
+use Rattle.integer.specs.Ends.{integer, kept}
+use Rattle.integer.proofs.Wide.{wide-difference}
+use Rattle.integer.proofs.arithmetic.subtract.Needs as need
+
+pub returns : need.returns
+returns c = c .fit .ensures ∙ ap (kept integer) (wide-difference (c .args .x) (c .args .y) (c .fits .x) (c .fits .y))
