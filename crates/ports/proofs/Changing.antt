@@ -6,8 +6,8 @@ use mathlib.Core.Logic.{inl, inr}
 use Prim.Native.Nat.{ℕ, _≤_, _<_}
 use lib.Dec.{ltb, eqb}
 use lib.IntN.{ℤ}
-use lib.ListN.{length, getD, replicate}
-use Rattle.std.proofs.shelf.Lists.{getD-replicate, getD-past, length-replicate}
+use lib.ListN.{length, getD, set, replicate}
+use Rattle.std.proofs.shelf.Lists.{getD-replicate, getD-past, getD-set-same, getD-set-other, length-replicate}
 use Rattle.std.proofs.shelf.Tests.{eqb-true, eqb-false, lt-ltb, le-ltb, cases-lt, cond-true, cond-false}
 use Rattle.std.specs.declared.result.Result.{Result}
 use Rattle.std.specs.declared.result.Result.the-variants.{Ok, Err}
@@ -50,3 +50,7 @@ module _ (m : Meaning) (c : ℕ) (h : c < channels) where
 
   pub fed-full : (v : ℤ) → m c .depth ≤ length (m c .waiting) → m ≡ feed-after m c v
   fed-full v r = changed-by m m c (fed (m c) v) h (sym (cond-false (room (m c)) _ _ (le-ltb (length (m c .waiting)) (m c .depth) r))) (λ k ne. refl)
+
+-- a port that keeps a record for each channel, with the record of one channel replaced
+pub row-changed : {S : Type 0} (f : S → Channel) (rows : List S) (d s : S) (c : ℕ) → c < channels → c < length rows → (λ k. f (getD (set rows c s) k d)) ≡ changed (λ k. f (getD rows k d)) c (f s)
+row-changed f rows d s c h l = changed-by (λ k. f (getD rows k d)) (λ k. f (getD (set rows c s) k d)) c (f s) h (ap f (getD-set-same rows c s d l)) (λ k ne. ap f (getD-set-other rows c k s d ne))

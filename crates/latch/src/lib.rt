@@ -1,0 +1,2 @@
+//! A port that holds one sample on each channel.
+pub mod latch;
