@@ -1,1 +1,5 @@
-pub mod Nearest
+pub mod Between
+pub mod Euclid
+pub mod Powers
+pub mod Wide
+pub mod Words

@@ -1,7 +1,8 @@
 -- INTEGER's two ends, and what lies between two ends.
-use mathlib.Core.Bool.{Bool, true, false, cond, _&&_}
+use mathlib.Core.Bool.{Bool, cond, _&&_}
 use lib.IntN.{ℤ, pos, negsuc}
 use lib.Signed.{_≤ℤ_, leZ}
+use Rattle.std.specs.Orderings.{Decides}
 use Rattle.std.specs.declared.option.Option.{Option}
 use Rattle.std.specs.declared.option.Option.the-variants.{Some, None}
 
@@ -21,6 +22,10 @@ Within e z = (e .low ≤ℤ z) × (z ≤ℤ e .high)
 -- the test for that
 abbrev pub within : Ends → ℤ → Bool
 within e z = leZ (e .low) z && leZ z (e .high)
+
+-- the test holds of those numbers and no others
+abbrev pub Within-is-tested : Type 0
+Within-is-tested = (e : Ends) (z : ℤ) → Decides (within e z) (Within e z)
 
 -- z, or none where it lies outside the ends
 abbrev pub kept : Ends → ℤ → Option ℤ

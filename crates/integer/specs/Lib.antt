@@ -1,2 +1,4 @@
 pub mod Bands
+pub mod Division
 pub mod Ends
+pub mod Sets

@@ -1,7 +1,7 @@
 // Bands of numbers: what lies outside is moved to the nearest end.
 ghost use mathlib.Core.Path.{_≡_};
 ghost use lib.Signed.{_≤ℤ_};
-ghost use Rattle.integer.specs.Bands.{band, Nearest, Held-is-nearest};
+ghost use Rattle.integer.specs.Bands.{band, Nearest};
 ghost use Rattle.integer.specs.Ends.{integer, held, clamped};
 use crate::HIGHEST;
 use crate::LOWEST;
@@ -10,7 +10,6 @@ use crate::LOWEST;
 pub fn saturate(x: i64) -> i32
     ensures answer { λ r. ⌜ r ≡ held integer x ⌝ }
     ensures nearest { λ r. ⌜ Nearest integer x r ⌝ }
-    ensures law { λ _. ⌜ Held-is-nearest ⌝ }
 {
     if x <= LOWEST as i64 {
         LOWEST

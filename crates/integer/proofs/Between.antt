@@ -1,11 +1,14 @@
--- What is held between two ends is nearest to the number that it came from.
+-- Numbers between two ends: the test of them, and what is held there.
 use mathlib.Core.Path.{_≡_, subst, sym}
 use native.Mathlib.Omega.{arith}
 use lib.IntN.{ℤ}
 use lib.Signed.{_≤ℤ_}
 use Rattle.std.proofs.shelf.Signed.{ints}
 use Rattle.integer.specs.Bands.{Nearest, Held-is-nearest}
-use Rattle.integer.specs.Ends.{Ends, held}
+use Rattle.integer.specs.Ends.{Ends, Within-is-tested, held}
+
+pub within-tested : Within-is-tested
+within-tested e z = (λ t. grind (arith, ints), λ h. grind (arith, ints))
 
 pub held-nearest : Held-is-nearest
 held-nearest e z h = record {

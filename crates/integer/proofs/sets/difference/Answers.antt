@@ -1,0 +1,22 @@
+use mathlib.Core.Path.{_∙_, ap, ap₂}
+use mathlib.Core.Bool.{not, _&&_}
+use Prim.Native.Nat.{_-_}
+use native.Mathlib.Omega.{arith}
+use lib.Bits.{bitAnd}
+use Rattle.std.proofs.shelf.Bits.{and-le-l}
+use Rattle.integer.specs.Sets.{has}
+use Rattle.integer.proofs.Powers.{digit-and, digit-not}
+use Rattle.integer.proofs.Words.{answered, digit-low}
+use Rattle.integer.proofs.sets.difference.Needs as need
+
+pub returns : need.returns
+returns c =
+    let a = c .args .a in
+    let b = c .args .b in
+    let m = c .low-bits .result in
+    let n = c .low-bits-2 .result in
+    let e = answered (λ i. has i a && not (has i b)) (bitAnd m (65535 - n)) (omega (arith, and-le-l m (65535 - n)))
+    (λ i l. digit-and i m (65535 - n)
+    ∙ ap₂ _&&_ (digit-low a m (c .fits .a) (c .low-bits .ensures) i)
+    (digit-not 16 i n l (c .low-bits-2 .ok) ∙ ap not (digit-low b n (c .fits .b) (c .low-bits-2 .ensures) i))) in
+    record { answer = e .0; members = e .1 }
