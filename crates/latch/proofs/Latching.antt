@@ -19,7 +19,7 @@ use Rattle.ports.specs.Stored.{stored}
 use Rattle.ports.proofs.Changing.{getD-row, row-changed, changed-by, answered, feed-room, feed-full, fed-full}
 use Rattle.ports.proofs.Integers.{stored-same}
 use Rattle.ports.proofs.Width.{Fits}
-use Rattle.latch.specs.declared.latch.Slot.{Slot}
+use Rattle.latch.specs.declared.Slot.{Slot}
 use Rattle.latch.specs.Latched.{waiting-in, slot-channel, empty-slot, latched}
 
 pub latched-new : latched (replicate 16 empty-slot) ≡ blank 1

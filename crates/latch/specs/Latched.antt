@@ -8,7 +8,7 @@ use Rattle.std.specs.declared.option.Option.the-variants.{Some, None}
 use Rattle.ports.specs.Channels.{Channel, Meaning}
 use Rattle.ports.specs.Layers.{plain}
 use Rattle.ports.specs.Stored.{stored}
-use Rattle.latch.specs.declared.latch.Slot.{Slot}
+use Rattle.latch.specs.declared.Slot.{Slot}
 
 -- the samples that wait in a slot: one or none
 abbrev pub waiting-in : Option ℤ → List ℤ

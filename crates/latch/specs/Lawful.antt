@@ -8,7 +8,7 @@ use Rattle.std.specs.declared.option.Option.the-variants.{Some, None}
 use Rattle.std.specs.shelf.Lists.{All}
 use Rattle.ports.specs.Law.{Integer, Lawful}
 use Rattle.ports.proofs.Integers.{stored-integer}
-use Rattle.latch.specs.declared.latch.Slot.{Slot}
+use Rattle.latch.specs.declared.Slot.{Slot}
 use Rattle.latch.specs.Latched.{waiting-in, empty-slot, latched}
 
 waits-integers : (o : Option ℤ) → All Integer (waiting-in o)

@@ -1,6 +1,6 @@
 -- What a trim over a clip means.
-use Rattle.layers.specs.Clips.{clipped}
-use Rattle.layers.specs.Trims.{trimmed}
+use Rattle.clip.specs.Clips.{clipped}
+use Rattle.trim.specs.Trims.{trimmed}
 use Rattle.ports.specs.Channels.{Meaning}
 use Rattle.piles.specs.declared.layer.Layer.{Layer}
 

@@ -1,4 +1,5 @@
 ghost use Rattle.piles.specs.Exchanges.{Exchanges};
+use ports::lent::LentPort;
 use ports::port::Port;
 use ports::refusal::Refusal;
 use ports::sample::Sample;

@@ -1,5 +1,5 @@
-use layers::bands::Bands;
-use layers::offsets::Offsets;
+use clip::bands::Bands;
+use trim::offsets::Offsets;
 
 /// The settings of a trim over a clip.
 #[derive(Drop)]

@@ -1,13 +1,13 @@
 ghost use mathlib.Core.Path.{_≡_};
-ghost use Rattle.layers.specs.Clips.{clipped};
-ghost use Rattle.layers.specs.Trims.{trimmed};
+ghost use Rattle.clip.specs.Clips.{clipped};
+ghost use Rattle.trim.specs.Trims.{trimmed};
 ghost use Rattle.piles.specs.Piles.{paired};
 use crate::layer::Layer;
-use layers::clip::Clip;
-use layers::clip::ClipPort;
-use layers::trim::Trim;
-use layers::trim::TrimPort;
+use clip::Clip;
+use clip::ClipPort;
 use ports::port::Port;
+use trim::Trim;
+use trim::TrimPort;
 
 /// A trim over a clip.
 pub type Pair<P> = Trim<Clip<P>>;

@@ -11,15 +11,15 @@ use crate::exchange::exchange;
 use crate::holder::Holder;
 use crate::layer::Layer;
 use crate::pile::pair;
-use latch::latch::Latch;
-use latch::latch::LatchPort;
-use layers::clip::ClipPort;
-use layers::trim::TrimPort;
+use clip::ClipPort;
+use latch::Latch;
+use latch::LatchPort;
 use ports::lent::LentPort;
 use ports::refusal::Refusal;
 use ports::sample::Sample;
-use queue::queue::Queue;
-use queue::queue::QueuePort;
+use queue::Queue;
+use queue::QueuePort;
+use trim::TrimPort;
 
 /// An exchange through a pile of four that owns a queue.
 pub fn over_queue(

@@ -1,19 +1,19 @@
 use crate::lines::read_script;
 use crate::serve::serve;
-use latch::latch::Latch;
-use latch::latch::LatchPort;
-use layers::clip::Clip;
-use layers::clip::ClipPort;
-use layers::trim::Trim;
-use layers::trim::TrimPort;
-use queue::queue::Queue;
-use queue::queue::QueuePort;
+use clip::Clip;
+use clip::ClipPort;
+use latch::Latch;
+use latch::LatchPort;
+use queue::Queue;
+use queue::QueuePort;
 use script::answer::Answer;
 use script::answer::AnswerDisplay;
 use script::command::Command;
 use script::settings::Base;
 use script::settings::Settings;
 use std::io;
+use trim::Trim;
+use trim::TrimPort;
 
 /// The samples that the deepest queue has a place for: more would never be used.
 const MOST: u32 = 65_536;

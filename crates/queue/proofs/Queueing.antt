@@ -20,7 +20,7 @@ use Rattle.ports.specs.Stored.{stored}
 use Rattle.ports.proofs.Changing.{getD-row, changed-by, row-changed, answered, fed-room, feed-room, feed-full, fed-full}
 use Rattle.ports.proofs.Integers.{stored-same}
 use Rattle.ports.proofs.Width.{Fits}
-use Rattle.queue.specs.declared.queue.Ring.{Ring}
+use Rattle.queue.specs.declared.Ring.{Ring}
 use Rattle.queue.specs.Queued.{share, wrap, place, samples, head-in, ring-channel, empty-ring, queued}
 use Rattle.queue.proofs.Ringing.{length-samples, samples-fed, samples-other, samples-took, samples-oldest}
 

@@ -10,7 +10,7 @@ use Rattle.std.proofs.shelf.Elements.{all-map}
 use Rattle.ports.specs.Law.{Integer, Lawful, deepest}
 use Rattle.ports.specs.Stored.{stored}
 use Rattle.ports.proofs.Integers.{stored-integer}
-use Rattle.queue.specs.declared.queue.Ring.{Ring}
+use Rattle.queue.specs.declared.Ring.{Ring}
 use Rattle.queue.specs.Queued.{share, place, head-in, samples, empty-ring, queued}
 
 each : (P : ℕ → Type 0) → ((n : ℕ) → P n) → (ns : List ℕ) → All P ns

@@ -10,7 +10,7 @@ use Rattle.ports.specs.Channels.{Channel, Meaning}
 use Rattle.ports.specs.Law.{deepest}
 use Rattle.ports.specs.Layers.{plain}
 use Rattle.ports.specs.Stored.{stored}
-use Rattle.queue.specs.declared.queue.Ring.{Ring}
+use Rattle.queue.specs.declared.Ring.{Ring}
 
 -- each channel's share of a memory of l samples: its depth
 abbrev pub share : ℕ → ℕ

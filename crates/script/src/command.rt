@@ -1,6 +1,6 @@
-use crate::number::channel;
-use crate::number::sample;
-use crate::number::size;
+use number::channel;
+use number::sample;
+use number::size;
 use ports::sample::Sample;
 
 /// What a line of a script asks.

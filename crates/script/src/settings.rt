@@ -1,8 +1,8 @@
 use crate::answer::Answer;
 use crate::command::Command;
-use layers::bands::Bands;
-use layers::offsets::Offsets;
+use clip::bands::Bands;
 use ports::refusal::Refusal;
+use trim::offsets::Offsets;
 
 /// The port under all.
 #[derive(Clone, Copy)]

@@ -1,5 +1,0 @@
-use Rattle.latch.proofs.Latching.{latched-new}
-use Rattle.latch.proofs.latch.Latch.new.Needs as need
-
-pub returns : need.returns
-returns c = latched-new

@@ -1,2 +1,0 @@
-pub mod Trimming
-pub mod Clipping

@@ -1,6 +1,0 @@
-use mathlib.Core.Path.{_∙_}
-use Rattle.layers.proofs.Trimming.{trimmed-look}
-use Rattle.layers.proofs.trim.TrimPort.look.Needs as need
-
-pub returns : need.returns
-returns g c = c .look .ensures ∙ trimmed-look (c .args .self .now .offsets .each) (g .P·Port .meaning (c .args .self .now .lower)) (c .args .c)

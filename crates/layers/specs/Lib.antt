@@ -1,3 +1,0 @@
-pub mod Trims
-pub mod Clips
-pub mod Lawful
