@@ -2,7 +2,7 @@ ghost use mathlib.Core.Path.{_≡_};
 ghost use lib.ListN.{length};
 ghost use Rattle.piles.specs.Exchanges.{Exchanges};
 ghost use Rattle.piles.specs.Piles.{paired};
-ghost use Rattle.ports.specs.Calls.{feed-answer};
+ghost use Rattle.ports.specs.Calls.{feed-answer, feed-after, look-answer};
 ghost use Rattle.ports.specs.Layers.{blank};
 ghost use Rattle.ports.specs.Refusals.{numbered};
 ghost use Rattle.queue.specs.Queued.{share};
@@ -15,11 +15,15 @@ use clip::ClipPort;
 use latch::Latch;
 use latch::LatchPort;
 use ports::lent::LentPort;
+use ports::port::Port;
 use ports::refusal::Refusal;
 use ports::sample::Sample;
+use ports::seen::Seen;
 use queue::Queue;
 use queue::QueuePort;
+use trim::Trim;
 use trim::TrimPort;
+use trim::offsets::Offsets;
 
 /// An exchange through a pile of four that owns a queue.
 pub fn over_queue(
@@ -94,4 +98,18 @@ pub fn held(
 {
     let mut holder = Holder::new(code, pair(pair(Queue::new(memory), low), high));
     holder.feed(c, v)
+}
+
+/// A feed through a trim over a port that is lent, and then a look at that port itself.
+pub fn seen_after<P: Port>(
+    port: &mut P,
+    offsets: Offsets,
+    c: u8,
+    v: Sample,
+) -> Result<Seen, Refusal>
+    ensures { λ r. ⌜ numbered r ≡ look-answer (feed-after (P·Port .meaning (now (port .entry))) c v) c ⌝ }
+{
+    let mut trim = Trim::new(&mut *port, offsets);
+    let _ = trim.feed(c, v);
+    port.look(c)
 }

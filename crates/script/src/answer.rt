@@ -1,4 +1,3 @@
-use ports::refusal::Refusal;
 use ports::sample::Sample;
 use ports::seen::Seen;
 use std::fmt;
@@ -10,8 +9,8 @@ pub enum Answer {
     Done,
     /// The feed was accepted.
     Fed,
-    /// It was refused, and nothing was altered.
-    Refused(Refusal),
+    /// It was refused for the reason of this number, and nothing was altered.
+    Refused(u8),
     /// What a look saw.
     Seen(Seen),
     /// The sample that was taken.
@@ -27,10 +26,7 @@ pub impl fmt::Display for Answer as AnswerDisplay {
         match *self {
             Answer::Done => write!(f, "ok"),
             Answer::Fed => write!(f, "fed"),
-            Answer::Refused(why) => {
-                let number = why.number();
-                write!(f, "refused {number}")
-            }
+            Answer::Refused(number) => write!(f, "refused {number}"),
             Answer::Seen(seen) => {
                 let waiting = seen.waiting;
                 let last = seen.last;
