@@ -1,22 +1,21 @@
 -- What a latch answers, and what it means after each call.
 use mathlib.Core.Path.{_≡_, refl, sym, ap, ap₂, fun-ext, _∙_}
-use mathlib.Core.Bool.{cond}
-use mathlib.Core.List.{List, _∷_, [], _++_}
+use mathlib.Core.List.{List, _∷_, []}
 use Prim.Native.Nat.{ℕ, _<_}
 use native.Mathlib.Omega.{arith}
-use lib.Dec.{lit<, lit≤}
-use lib.IntN.{ℤ, pos}
+use lib.Dec.{lit<}
+use lib.IntN.{ℤ}
 use lib.ListN.{length, getD, set, replicate}
 use Rattle.std.specs.declared.option.Option.{Option}
 use Rattle.std.specs.declared.option.Option.the-variants.{Some, None}
 use Rattle.std.specs.declared.result.Result.{Result}
-use Rattle.std.specs.declared.result.Result.the-variants.{Ok, Err}
+use Rattle.std.specs.declared.result.Result.the-variants.{Ok}
 use Rattle.ports.specs.declared.seen.Seen.{Seen}
 use Rattle.ports.specs.Channels.{Channel, Meaning, channels, holding}
 use Rattle.ports.specs.Calls.{changed, fed, oldest, newer, feed-answer, feed-after, take-answer, take-after, set-after, look-answer}
 use Rattle.ports.specs.Layers.{plain, blank}
 use Rattle.ports.specs.Stored.{stored}
-use Rattle.ports.proofs.Changing.{getD-row, row-changed, changed-by, answered, feed-room, feed-full, fed-full}
+use Rattle.ports.proofs.Changing.{getD-row, row-changed, changed-by, answered, feed-room}
 use Rattle.ports.proofs.Integers.{stored-same}
 use Rattle.ports.proofs.Width.{Fits}
 use Rattle.latch.specs.declared.Slot.{Slot}
@@ -42,12 +41,6 @@ module _ (slots : List Slot) (c : ℕ) (hc : c < channels) (hl : length slots �
 
   pub latched-room : s .waiting ≡ None → Ok tt ≡ feed-answer m c
   latched-room none = feed-room m c hc (rw none (lit< tt))
-
-  pub latched-full : (z : ℤ) → s .waiting ≡ Some z → Err 52 ≡ feed-answer m c
-  latched-full z some = feed-full m c hc (rw some (lit≤ tt))
-
-  pub latched-kept : (z v : ℤ) → s .waiting ≡ Some z → m ≡ feed-after m c v
-  latched-kept z v some = fed-full m c hc v (rw some (lit≤ tt))
 
   pub latched-fed : (v : ℤ) → Fits v → s .waiting ≡ None → latched (set slots c (record { waiting = Some v; last = s .last })) ≡ feed-after m c v
   latched-fed v fits none = replaced _ ∙ ap (changed m c) (ap (λ z. plain 1 (z ∷ []) (stored (s .last))) (stored-same v fits) ∙ sym (ap (λ o. fed (with-waiting o) v) none))

@@ -1,6 +1,5 @@
 -- What a latch means.
 use mathlib.Core.List.{List, [], _∷_}
-use Prim.Native.Nat.{ℕ}
 use lib.IntN.{ℤ, pos}
 use lib.ListN.{getD}
 use Rattle.std.specs.declared.option.Option.{Option}

@@ -1,5 +1,5 @@
 -- An exchange seen on an equal meaning, with equal values.
-use mathlib.Core.Path.{_≡_, _∙_, ap, subst}
+use mathlib.Core.Path.{_≡_, subst}
 use Prim.Native.Nat.{ℕ}
 use lib.IntN.{ℤ}
 use mir.Val.{toZ, ofZ}

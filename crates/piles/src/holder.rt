@@ -30,7 +30,7 @@ impl<'a, P: Port> Holder<'a, P> {
         self.port.feed(c, v)
     }
 
-    /// Takes from the port on the channel that the code's first word names, if it has one.
+    /// Takes from the port.
     pub fn take(&mut self, c: u8) -> Result<Option<Sample>, Refusal>
         ensures answer { λ r. ⌜ numbered r ≡ take-answer (P·Port .meaning (now (self .entry) .port)) c ⌝ }
         ensures after { λ _. ⌜ P·Port .meaning (now (self .exit) .port) ≡ take-after (P·Port .meaning (now (self .entry) .port)) c ⌝ }

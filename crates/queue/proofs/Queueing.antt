@@ -17,7 +17,7 @@ use Rattle.ports.specs.Channels.{Channel, Meaning, channels, holding}
 use Rattle.ports.specs.Calls.{changed, fed, oldest, newer, feed-answer, feed-after, take-answer, take-after, set-after, look-answer}
 use Rattle.ports.specs.Layers.{plain, blank}
 use Rattle.ports.specs.Stored.{stored}
-use Rattle.ports.proofs.Changing.{getD-row, changed-by, row-changed, answered, fed-room, feed-room, feed-full, fed-full}
+use Rattle.ports.proofs.Changing.{getD-row, changed-by, answered, fed-room, feed-room, feed-full, fed-full}
 use Rattle.ports.proofs.Integers.{stored-same}
 use Rattle.ports.proofs.Width.{Fits}
 use Rattle.queue.specs.declared.Ring.{Ring}

@@ -1,6 +1,6 @@
 -- A queue keeps the law of ports.
 use mathlib.Core.List.{List, [], _∷_}
-use Prim.Native.Nat.{ℕ, _≤_, _/_, min}
+use Prim.Native.Nat.{ℕ, _/_, min}
 use native.Mathlib.Nat.{min-le-right}
 use lib.IntN.{ℤ, pos}
 use lib.ListN.{length, getD}

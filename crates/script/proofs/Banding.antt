@@ -5,13 +5,12 @@ use Prim.Native.Nat.{ℕ}
 use lib.Dec.{ltb}
 use lib.IntN.{ℤ}
 use lib.Signed.{leZ}
-use native.Mathlib.Omega.{arith}
 use Rattle.std.specs.Results.{isOk}
 use Rattle.std.specs.declared.result.Result.{Result}
 use Rattle.std.specs.declared.result.Result.the-variants.{Ok, Err}
 use Rattle.clip.specs.Clips.{band-answer}
 use Rattle.ports.specs.Channels.{channels}
-use Rattle.ports.specs.Refusals.{number-of, numbered}
+use Rattle.ports.specs.Refusals.{numbered}
 use Rattle.ports.specs.declared.refusal.Refusal.{Refusal}
 
 pub kept-so : {X : Type 0} (r : Result Unit Refusal) (c : ℕ) (a b : ℤ) (new old : X) → numbered r ≡ band-answer c a b → cond (isOk r) new old ≡ cond (ltb c channels) (cond (leZ a b) new old) old

@@ -7,7 +7,7 @@ use Rattle.std.specs.declared.result.Result.{Result}
 use Rattle.std.specs.declared.result.Result.the-variants.{Ok, Err}
 use Rattle.ports.specs.declared.seen.Seen as seen
 use Rattle.script.specs.declared.answer.Answer.{Answer}
-use Rattle.script.specs.declared.answer.Answer.the-variants.{Done, Fed, Refused, Seen, Taken, Nothing, Unknown}
+use Rattle.script.specs.declared.answer.Answer.the-variants.{Done, Fed, Refused, Seen, Taken, Nothing}
 
 -- of a setting or a set
 abbrev pub told-of : Result Unit ℕ → Answer

@@ -13,9 +13,8 @@ use Rattle.std.specs.declared.result.Result.{Result}
 use Rattle.std.specs.declared.result.Result.the-variants.{Ok, Err}
 use lib.ListN.{length, getD, set, take, drop}
 use Rattle.std.proofs.shelf.Lists.{append-nil, take-more, take-more-set, drop-set-lt, drop-drop}
-use Rattle.ports.specs.declared.refusal.Refusal.{Refusal}
 use Rattle.ports.specs.Channels.{Channel, Meaning, channels, holding}
-use Rattle.ports.specs.Calls.{room, fed, oldest, newer, feed-answer, feed-after, take-answer, take-after}
+use Rattle.ports.specs.Calls.{room, oldest, newer, feed-answer, feed-after, take-answer, take-after}
 use Rattle.ports.specs.Refusals.{number-of}
 use Rattle.traffic.specs.declared.action.Action.{Action}
 use Rattle.traffic.specs.declared.action.Action.the-variants.{Feed, Take}

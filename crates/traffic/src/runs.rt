@@ -5,7 +5,6 @@ ghost use Rattle.traffic.specs.Runs.{Does, done, Ran, Conserved};
 use crate::action::Action;
 use crate::action::Outcome;
 use ports::port::Port;
-use ports::sample::Sample;
 
 /// Carries out one action on channel `c`.
 fn act<P: Port>(port: &mut P, c: u8, action: Action) -> Outcome

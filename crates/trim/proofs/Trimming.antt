@@ -5,14 +5,14 @@ use mathlib.Core.List.{List, [], _∷_, _++_, map}
 use Prim.Native.Nat.{ℕ}
 use lib.Dec.{ltb}
 use lib.IntN.{ℤ, pos}
-use lib.ListN.{length, getD, length-map}
+use lib.ListN.{getD, length-map}
 use Rattle.std.proofs.shelf.Lists.{map-push}
 use Rattle.std.specs.declared.option.Option.{Option}
 use Rattle.std.specs.declared.option.Option.the-variants.{Some, None}
 use Rattle.std.specs.declared.result.Result.{Result}
 use Rattle.std.specs.declared.result.Result.the-variants.{Ok, Err}
 use Rattle.ports.specs.Channels.{Channel, Meaning, channels, holding}
-use Rattle.ports.specs.Calls.{on-channel, room, fed, oldest, newer, feed-answer, feed-after, take-answer, take-after, set-after, look-answer}
+use Rattle.ports.specs.Calls.{room, fed, oldest, newer, feed-answer, feed-after, take-answer, take-after, set-after, look-answer}
 use Rattle.ports.specs.Stored.{stored}
 use Rattle.ports.proofs.Layering.{layer-changed}
 use Rattle.trim.specs.Trims.{less, trim-channel, trimmed}

@@ -1,6 +1,5 @@
 -- What a trim means.
 use mathlib.Core.List.{List, map}
-use Prim.Native.Nat.{ℕ}
 use lib.IntN.{ℤ, pos, _-ℤ_}
 use lib.ListN.{getD}
 use Rattle.integer.specs.Ends.{integer, held}

@@ -1,13 +1,10 @@
-use mathlib.Core.Path.{_≡_, _∙_, ap, ap₂, refl}
-use Prim.Native.Nat.{_<_}
+use mathlib.Core.Path.{_≡_, _∙_, ap, refl}
 use borrow.Author.Needs.{needs}
-use lib.IntN.{pos}
 use lib.ListN.{length, getD, set}
-use Rattle.std.specs.declared.option.Option.the-variants.{Some, None}
-use Rattle.std.specs.declared.result.Result.the-variants.{Ok}
-use Rattle.ports.proofs.Width.{Fits, same}
+use Rattle.std.specs.declared.option.Option.the-variants.{Some}
+use Rattle.ports.proofs.Width.{same}
 use Rattle.latch.specs.Latched.{latched, empty-slot}
-use Rattle.latch.proofs.Latching.{latched-room, latched-full, latched-kept, latched-fed}
+use Rattle.latch.proofs.Latching.{latched-room, latched-fed}
 use Rattle.latch.proofs.LatchPort.feed.Needs as need
 
 pub returns-in-None : need.returns-in-None

@@ -1,9 +1,6 @@
 use mathlib.Core.Path.{_≡_, _∙_, ap, sym}
-use Prim.Native.Nat.{_<_}
 use borrow.Author.Needs.{needs}
-use lib.IntN.{pos}
-use lib.ListN.{length, getD, set}
-use Rattle.std.specs.declared.option.Option.the-variants.{Some, None}
+use lib.ListN.{length, getD}
 use Rattle.std.specs.declared.result.Result.the-variants.{Ok}
 use Rattle.ports.proofs.Width.{Fits, same}
 use Rattle.latch.specs.Latched.{waiting-in, empty-slot}

@@ -1,11 +1,7 @@
-use mathlib.Core.Path.{_≡_, _∙_, ap, ap₂, refl}
-use Prim.Native.Nat.{_<_}
+use mathlib.Core.Path.{_≡_, _∙_, ap, refl}
 use borrow.Author.Needs.{needs}
-use lib.IntN.{pos}
 use lib.ListN.{length, getD, set}
-use Rattle.std.specs.declared.option.Option.the-variants.{Some, None}
-use Rattle.std.specs.declared.result.Result.the-variants.{Ok}
-use Rattle.ports.proofs.Width.{Fits, same}
+use Rattle.ports.proofs.Width.{same}
 use Rattle.latch.specs.Latched.{latched, empty-slot}
 use Rattle.latch.proofs.Latching.{latched-set}
 use Rattle.latch.proofs.LatchPort.set.Needs as need

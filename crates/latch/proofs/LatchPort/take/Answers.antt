@@ -1,12 +1,9 @@
-use mathlib.Core.Path.{_≡_, _∙_, ap, ap₂, refl}
-use Prim.Native.Nat.{_<_}
+use mathlib.Core.Path.{_≡_, _∙_, ap, refl}
 use borrow.Author.Needs.{needs}
-use lib.IntN.{pos}
-use lib.ListN.{length, getD, set}
-use Rattle.std.specs.declared.option.Option.the-variants.{Some, None}
+use lib.ListN.{length}
+use Rattle.std.specs.declared.option.Option.the-variants.{Some}
 use Rattle.std.specs.declared.result.Result.the-variants.{Ok}
 use Rattle.ports.proofs.Width.{Fits, same}
-use Rattle.latch.specs.Latched.{latched, empty-slot}
 use Rattle.latch.proofs.Latching.{latched-none, latched-left, latched-take, latched-took}
 use Rattle.latch.proofs.LatchPort.take.Needs as need
 

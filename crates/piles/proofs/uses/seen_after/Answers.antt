@@ -2,7 +2,6 @@ use mathlib.Core.Path.{_≡_, _∙_, ap, sym}
 use borrow.Author.Needs.{needs}
 use mir.Val.{toZ, ofZ}
 use Rattle.ports.specs.Calls.{look-answer, feed-after}
-use Rattle.ports.specs.Channels.{Meaning}
 use Rattle.ports.specs.Refusals.{numbered}
 use Rattle.ports.proofs.Width.{width, same}
 use Rattle.trim.specs.Trims.{trimmed}

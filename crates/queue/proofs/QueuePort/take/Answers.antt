@@ -1,5 +1,5 @@
 use mathlib.Core.Path.{_≡_, _∙_, ap, subst, refl}
-use Prim.Native.Nat.{ℕ, _+_, _-_, _*_, _<_, _≤_, min}
+use Prim.Native.Nat.{ℕ, _+_, _-_, _*_, _<_, min}
 use native.Mathlib.Omega.{arith}
 use borrow.Author.Needs.{needs}
 use lib.IntN.{ℤ, pos}
@@ -9,7 +9,7 @@ use Rattle.std.specs.declared.option.Option.the-variants.{Some}
 use Rattle.std.specs.declared.result.Result.the-variants.{Ok}
 use Rattle.ports.specs.Channels.{Meaning}
 use Rattle.ports.proofs.Width.{width, Fits, same}
-use Rattle.queue.specs.Queued.{share, wrap, place, head-in, empty-ring, queued}
+use Rattle.queue.specs.Queued.{share, wrap, head-in, empty-ring, queued}
 use Rattle.queue.proofs.Queueing.{queued-take, queued-took}
 use Rattle.queue.proofs.QueuePort.take.Needs as need
 

@@ -1,6 +1,5 @@
 use mathlib.Core.Path.{_≡_}
-use Prim.Native.Nat.{_≤_}
-use lib.ListN.{length, take, drop}
+use lib.ListN.{take, drop}
 use Rattle.traffic.specs.Runs.{Ran}
 use Rattle.traffic.proofs.runs.carry_out.Given as given
 
