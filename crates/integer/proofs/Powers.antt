@@ -67,10 +67,10 @@ digit-or = digitwise bitOr _||_ or-shr or-mod or-table
 pub digit-and : (i m n : ℕ) → digit i (bitAnd m n) ≡ (digit i m && digit i n)
 digit-and = digitwise bitAnd _&&_ and-shr and-mod and-table
 
--- the complement to w digits
 half : (n i : ℕ) → n / 2 ^ suc i ≡ n / 2 / 2 ^ i
 half n i = ap (λ t. n / 2 ^ t) (sym (one-add i)) ∙ sym (shr-shr n 1 i)
 
+-- a digit of the complement to w digits
 flipped : (w i n : ℕ) → i < w → n < 2 ^ w → (2 ^ w - 1 - n) / 2 ^ i % 2 + n / 2 ^ i % 2 ≡ 1
 flipped zero i n h k = absurd (omega arith)
 flipped (suc w) zero n h k = omega (arith, pow-suc 2 w, pow-pos w)
@@ -140,10 +140,10 @@ digit-single i j =
       | inr (inr l) ↦ ap (λ t. eqb (t % 2) 1) (div-eq-of-lt (pow-below j i l)) ∙ sym (ne-eqb i j (λ e. omega arith))
     ]
 
--- the sum of the powers from l to h, up to k
 pub two-to : (m n : ℕ) → m ≡ n → 2 ^ m ≡ 2 ^ n
 two-to m n e = ap (λ t. 2 ^ t) e
 
+-- the sum of the powers from l to h that are below 2 ^ k
 pub powers-span : (l h k : ℕ) → l ≤ h → powers (λ i. leb l i && leb i h) k + 2 ^ min k l ≡ 2 ^ min k (suc h)
 unfolding powers
 powers-span l h zero o =

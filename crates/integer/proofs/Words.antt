@@ -18,11 +18,6 @@ use Rattle.integer.specs.Ends.{within}
 use Rattle.integer.specs.Sets.{elements, ifElement, ordered, span, bits, has, powers, word, Elements, Word-is-set, Elements-fix}
 use Rattle.integer.proofs.Powers.{digit, digits-sum, powers-same, powers-below, digit-powers, digit-single, powers-span, two-to}
 
-pub bits-below : (z : ℤ) → bits z < 2 ^ 16
-unfolding bits
-bits-below (pos n) = omega arith
-bits-below (negsuc n) = omega arith
-
 pub has-digit : (n i : ℕ) → n < 2 ^ 16 → has i (pos n) ≡ digit i n
 unfolding has bits
 has-digit n i h = ap (digit i) (mod-eq-of-lt h)
@@ -61,6 +56,7 @@ pub digit-low : (a : ℤ) (m : ℕ) → SFits w32 a → m ≡ bits (toZ w32 (ofZ
 unfolding has
 digit-low a m f e i = ap (digit i) (e ∙ ap bits (toZ-ofZ w32 a f))
 
+-- what a chosen `Some` says of its choice
 some-of : {A : Type 0} (b : Bool) (x y : A) → Some x ≡ cond b (Some y) None → (b ≡ true) × (x ≡ y)
 some-of true x y e = (refl, cc)
 some-of false x y e = let z : _≡_ {A = ℕ} 0 1 = cc in absurd (omega arith)
@@ -76,6 +72,7 @@ placed n i f e =
     small (pos n) i w e = grind (arith, tells)
     small (negsuc n) i w e = grind (arith, tells)
 
+-- an answer for an element
 pub given : {A : Type 0} (n : ℤ) (x y : A) → within elements n ≡ true → x ≡ y → Some x ≡ ifElement n y
 given n x y w e = ap Some e ∙ sym (cond-true (within elements n) (Some y) None w)
 
@@ -90,6 +87,7 @@ sum-bits l h o s =
     let b = two-to (min 16 (suc h)) (suc h) (omega arith) in
     omega (arith, powers-span l h 16 o, pow-suc 2 h, shl-whole 2 2 h 32 (lit< tt) (omega arith), one-shl l 32 (omega arith))
 
+-- the ends of a range by their places
 pub ranged : (m n : ℤ) (l h : ℕ) → within elements m ≡ true → within elements n ≡ true → l ≡ natAbs m → h ≡ natAbs n → l ≤ h → (word (λ i. leb l i && leb i h) ≡ span m n) × (ordered m n ≡ true)
 ranged (pos m) (pos n) l h v w e f o =
     (ap₂ (λ x y. word (λ i. leb x i && leb i y)) e f, and-from _ _ (and-from _ _ v w) (le-leb m n (omega arith)))

@@ -14,7 +14,7 @@ use Rattle.integer.specs.Ends.{Ends, Within, within}
 abbrev pub elements : Ends
 elements = record { low = pos 0; high = pos 15 }
 
--- the words that are sets, and no other bits
+-- the words that are sets: they have no other bit than the low sixteen
 abbrev pub words : Ends
 words = record { low = pos 0; high = pos 65535 }
 
@@ -55,7 +55,7 @@ including a n = word (λ i. has i a || eqb i (natAbs n))
 abbrev pub excluding : ℤ → ℤ → ℤ
 excluding a n = word (λ i. has i a && not (eqb i (natAbs n)))
 
--- from m to n
+-- what lies from m to n
 abbrev pub span : ℤ → ℤ → ℤ
 span m n = word (λ i. leZ m (pos i) && leZ (pos i) n)
 
