@@ -8,7 +8,7 @@ use queue::Queue;
 use queue::QueuePort;
 use script::answer::Answer;
 use script::answer::AnswerDisplay;
-use script::command::Command;
+use script::line::Line;
 use script::settings::Base;
 use script::settings::Settings;
 use std::io;
@@ -22,15 +22,16 @@ const MOST: u32 = 65_536;
 fn settle<'s>(
     rt: &LibcRuntime,
     settings: &mut Settings,
-    script: &'s [Option<Command>],
-) -> io::Result<&'s [Option<Command>]> {
+    script: &'s [Line],
+) -> io::Result<&'s [Line]> {
     for (i, line) in script.iter().enumerate() {
         let answer = match *line {
-            None => Answer::Unknown,
-            Some(command) => match settings.take_in(command) {
+            Line::Command(command) => match settings.take_in(command) {
                 Some(answer) => answer,
                 None => return Ok(&script[i..]),
             },
+            Line::Unknown => Answer::Unknown,
+            Line::Silent => continue,
         };
         println!(rt, "{answer}")?;
     }
@@ -38,7 +39,7 @@ fn settle<'s>(
 }
 
 /// Answers the rest of the script on a trim over a clip over the port that was chosen.
-fn run(rt: &LibcRuntime, settings: Settings, script: &[Option<Command>]) -> io::Result<()> {
+fn run(rt: &LibcRuntime, settings: Settings, script: &[Line]) -> io::Result<()> {
     let Settings {
         base,
         offsets,

@@ -5,6 +5,7 @@ use ports::port::Port;
 use script::answer::Answer;
 use script::answer::AnswerDisplay;
 use script::command::Command;
+use script::line::Line;
 use std::io;
 
 /// The answer of a port to a command.
@@ -37,16 +38,13 @@ fn answer<P: Port>(port: &mut P, command: Command) -> Answer
     }
 }
 
-/// Answers a script on a port, a line each.
-pub fn serve<P: Port>(
-    rt: &LibcRuntime,
-    port: &mut P,
-    script: &[Option<Command>],
-) -> io::Result<()> {
+/// Answers the lines of a script on a port.
+pub fn serve<P: Port>(rt: &LibcRuntime, port: &mut P, script: &[Line]) -> io::Result<()> {
     for line in script {
         let reply = match *line {
-            Some(command) => answer(port, command),
-            None => Answer::Unknown,
+            Line::Command(command) => answer(port, command),
+            Line::Unknown => Answer::Unknown,
+            Line::Silent => continue,
         };
         println!(rt, "{reply}")?;
     }

@@ -45,32 +45,48 @@ impl Command {
     /// The command that the words of a line write, or none where they write no command.
     pub fn from_words(words: &[&str]) -> Option<Command> {
         match words {
-            ["port", "queue", l] => Some(Command::Queue(size(l)?)),
-            ["port", "latch"] => Some(Command::Latch),
-            ["trim", c, offset] => Some(Command::Trim {
-                channel: channel(c)?,
-                offset: sample(offset)?,
-            }),
+            [name, a] => with_one(name, a),
+            [name, a, b] => with_two(name, a, b),
             ["clip", c, low, high] => Some(Command::Clip {
                 channel: channel(c)?,
                 low: sample(low)?,
                 high: sample(high)?,
             }),
-            ["feed", c, v] => Some(Command::Feed {
-                channel: channel(c)?,
-                value: sample(v)?,
-            }),
-            ["look", c] => Some(Command::Look {
-                channel: channel(c)?,
-            }),
-            ["take", c] => Some(Command::Take {
-                channel: channel(c)?,
-            }),
-            ["set", c, v] => Some(Command::Set {
-                channel: channel(c)?,
-                value: sample(v)?,
-            }),
             _ => None,
         }
+    }
+}
+
+/// A command with one argument.
+fn with_one(name: &str, a: &str) -> Option<Command> {
+    match name {
+        "port" if a == "latch" => Some(Command::Latch),
+        "look" => Some(Command::Look {
+            channel: channel(a)?,
+        }),
+        "take" => Some(Command::Take {
+            channel: channel(a)?,
+        }),
+        _ => None,
+    }
+}
+
+/// A command with two arguments.
+fn with_two(name: &str, a: &str, b: &str) -> Option<Command> {
+    match name {
+        "port" if a == "queue" => Some(Command::Queue(size(b)?)),
+        "trim" => Some(Command::Trim {
+            channel: channel(a)?,
+            offset: sample(b)?,
+        }),
+        "feed" => Some(Command::Feed {
+            channel: channel(a)?,
+            value: sample(b)?,
+        }),
+        "set" => Some(Command::Set {
+            channel: channel(a)?,
+            value: sample(b)?,
+        }),
+        _ => None,
     }
 }
