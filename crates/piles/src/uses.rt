@@ -25,7 +25,22 @@ use trim::Trim;
 use trim::TrimPort;
 use trim::offsets::Offsets;
 
-/// An exchange through a pile of four that owns a queue.
+/// An exchange through a pile of four over any port.
+pub fn through_four<P: Port + Drop>(
+    lower: P,
+    high: Layer,
+    low: Layer,
+    c: u8,
+    v: Sample,
+    w: Sample,
+) -> Result<Exchanged, Refusal>
+    ensures { λ r. ⌜ Exchanges (paired high (paired low (P·Port .meaning lower))) c v w r ⌝ }
+{
+    let mut port = pair(pair(lower, low), high);
+    exchange(&mut port, c, v, w)
+}
+
+/// Through a pile that owns a queue.
 pub fn over_queue(
     memory: &mut [Sample],
     high: Layer,
@@ -36,11 +51,10 @@ pub fn over_queue(
 ) -> Result<Exchanged, Refusal>
     ensures { λ r. ⌜ Exchanges (paired high (paired low (blank (share (length (now (memory .entry))))))) c v w r ⌝ }
 {
-    let mut port = pair(pair(Queue::new(memory), low), high);
-    exchange(&mut port, c, v, w)
+    through_four(Queue::new(memory), high, low, c, v, w)
 }
 
-/// An exchange through a pile of four over a queue that it is lent.
+/// Through a pile over a queue that it is lent.
 pub fn over_lent_queue(
     memory: &mut [Sample],
     high: Layer,
@@ -52,11 +66,10 @@ pub fn over_lent_queue(
     ensures { λ r. ⌜ Exchanges (paired high (paired low (blank (share (length (now (memory .entry))))))) c v w r ⌝ }
 {
     let mut queue = Queue::new(memory);
-    let mut port = pair(pair(&mut queue, low), high);
-    exchange(&mut port, c, v, w)
+    through_four(&mut queue, high, low, c, v, w)
 }
 
-/// An exchange through a pile of four that owns a latch.
+/// Through a pile that owns a latch.
 pub fn over_latch(
     high: Layer,
     low: Layer,
@@ -66,11 +79,10 @@ pub fn over_latch(
 ) -> Result<Exchanged, Refusal>
     ensures { λ r. ⌜ Exchanges (paired high (paired low (blank 1))) c v w r ⌝ }
 {
-    let mut port = pair(pair(Latch::new(), low), high);
-    exchange(&mut port, c, v, w)
+    through_four(Latch::new(), high, low, c, v, w)
 }
 
-/// An exchange through a pile of four over a latch that it is lent.
+/// Through a pile over a latch that it is lent.
 pub fn over_lent_latch(
     high: Layer,
     low: Layer,
@@ -81,8 +93,7 @@ pub fn over_lent_latch(
     ensures { λ r. ⌜ Exchanges (paired high (paired low (blank 1))) c v w r ⌝ }
 {
     let mut latch = Latch::new();
-    let mut port = pair(pair(&mut latch, low), high);
-    exchange(&mut port, c, v, w)
+    through_four(&mut latch, high, low, c, v, w)
 }
 
 /// A feed to a holder that owns a pile of four over a queue.

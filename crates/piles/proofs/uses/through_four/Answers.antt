@@ -1,0 +1,8 @@
+use mathlib.Core.Path.{_∙_, ap}
+use Rattle.piles.specs.Piles.{paired}
+use Rattle.piles.proofs.Moving.{moved}
+use Rattle.piles.proofs.uses.through_four.Needs as need
+
+pub returns : need.returns
+returns g c =
+    moved _ _ (c .args .c) (c .args .v) (c .args .w) (c .exchange .result) (c .fits .v) (c .fits .w) (c .pair-port .ensures .means ∙ ap (paired (c .args .high)) (c .pair .ensures .means)) (c .exchange .ensures)
