@@ -1,0 +1,9 @@
+pub mod Classes
+pub mod Theory
+pub mod Decides
+pub mod Prefixes
+pub mod Faults
+pub mod Total
+pub mod Table
+pub mod Claimed
+pub mod Answered
