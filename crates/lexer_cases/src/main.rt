@@ -1,4 +1,5 @@
-// Scans each source of a table, one to a line, and answers it with its symbols or its fault.
+// Scans each source of a table, one to a line, and then each file that an argument names, and answers it with
+// its symbols or its fault.
 // A line that begins with % is passed over. In a source, \t \r \n and \\ are a tab, a carriage return, a
 // line feed and a backslash, \xHH is the byte HH, and \#NNNNNc is the byte c, NNNNN times.
 mod decode;
@@ -9,6 +10,8 @@ use lexer::Symbol;
 use lexer::SymbolRecord;
 use lexer::next_symbol;
 use lexer::scan;
+use std::env;
+use std::fs;
 use std::io;
 use std::io::BufRead;
 use std::io::BufReader;
@@ -91,6 +94,10 @@ fn main(rt: LibcRuntime) -> io::Result<()> {
             let source = decode(rt.alloc(), line.as_bytes())?;
             answer(&rt, line.as_str(), &source)?;
         }
+    }
+    for name in env::args(&rt)?.skip(1) {
+        let source = fs::read(&rt, name.as_str())?;
+        answer(&rt, name.as_str(), &source)?;
     }
     held_after(&rt, MAX_SYMBOLS - 1, b"a")?;
     held_after(&rt, MAX_SYMBOLS + 1, b" a ?")
