@@ -1,0 +1,2 @@
+pub mod Latched
+pub mod Lawful

@@ -1,0 +1,4 @@
+pub mod Width
+pub mod Integers
+pub mod Changing
+pub mod Layering

@@ -1,0 +1,2 @@
+mod Ringing
+mod Queueing
