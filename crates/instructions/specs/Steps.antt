@@ -59,7 +59,7 @@ setting (Err e) p c = failing e p c
 -- an instruction by what it asks of the port
 abbrev pub effect-by : PortCall → Instruction → State → Effect
 effect-by Nothing i c = settled (obeyed (i .operation) (i .operand) (on c) .result) (i .place) (obeyed (i .operation) (i .operand) (on c) .state)
-effect-by TakeCall i c = taking (take (on c) .result) (i .place) (take (on c) .state)
+effect-by TakeCall i c = taking (take c .result) (i .place) (on (take c .state))
 effect-by SetCall i c = setting (put (on c) .result) (i .place) (put (on c) .state)
 
 -- the effect of an instruction
