@@ -9,17 +9,19 @@ use native.Mathlib.Omega.{arith}
 use lib.Dec.{ltb, leb}
 use lib.IntN.{ℤ, pos}
 use lib.ListN.{length, getD, set, take, drop, length-drop, length-set}
-use Rattle.std.proofs.shelf.Lists.{getD-set-same, getD-drop, getD-take, length-take-le, drop-set-add}
-use Rattle.std.proofs.shelf.Tests.{lt-ltb, le-ltb, cond-true, cond-false}
+use Rattle.std.proofs.shelf.Lists.{getD-set-same, getD-drop, getD-take, length-take-le, drop-set-add, drop-drop}
+use Rattle.std.proofs.shelf.Tests.{lt-ltb, le-ltb, le-leb, lt-leb, cond-true, cond-false}
 use Rattle.std.specs.declared.result.Result.the-variants.{Ok, Err}
 use Rattle.instructions.specs.declared.answers.Fault.{Fault}
-use Rattle.instructions.specs.declared.answers.Fault.the-variants.{Broken}
+use Rattle.instructions.specs.declared.answers.Fault.the-variants.{Broken, Trap}
+use Rattle.instructions.specs.declared.answers.Trap.the-variants.{Activations}
 use Rattle.instructions.specs.declared.answers.Status.{Status}
-use Rattle.instructions.specs.State.{State, Words, Caller, operating, varying}
-use Rattle.instructions.specs.Moves.{Done, ok, fail, pulled, pull, push, operand, replaced, replace, variable, store-variable, global, store-global}
+use Rattle.instructions.specs.State.{State, Words, Caller, size, operating, varying}
+use Rattle.instructions.specs.Moves.{Done, ok, fail, pulled, pull, push, operand, replaced, replace, variable, store-variable, global, store-global, open-activation, close-activation, closed, make-variables}
 use Rattle.memory.specs.declared.activation.Activation.{Activation}
-use Rattle.memory.specs.Seen.{down, words-of, callers-of}
-use Rattle.memory.proofs.Rows.{Nested, length-down, down-set, up-set, callers-set, down-last, getD-down}
+use Rattle.memory.specs.Seen.{down, words-of, caller-of, callers-of, promoted}
+use Rattle.memory.specs.Nested.{blank}
+use Rattle.memory.proofs.Rows.{callers-later, drop-down, take-down, reverse-down, take-both, length-callers, Nested, length-down, down-set, up-set, callers-set, down-last, getD-down}
 
 -- the state of a memory with these fields
 abbrev pub raw : List ℤ → List ℤ → List Activation → ℕ → ℕ → ℕ → ℕ → ℕ → Status → State
@@ -133,3 +135,60 @@ module _ (gs : List ℤ) (ws : List ℤ) (cs : List Activation) (d base v o pc :
   pub store-global-absent : (e : Fault) (i : ℕ) (x : ℤ) → 1024 ≤ i → store-global e i x here ≡ fail e here
   unfolding store-global
   store-global-absent e i x h = cond-false _ _ _ (le-ltb i 1024 h)
+
+  pub open-short : (k t : ℕ) → o < k → open-activation k t here ≡ fail Broken here
+  unfolding open-activation
+  open-short k t h = cond-false _ _ _ (ap (leb k) (length-down ws (base + v) o) ∙ lt-leb k o h)
+
+  enough : (k : ℕ) → k ≤ o → leb k (length (down ws (base + v) o)) ≡ true
+  enough k h = ap (leb k) (length-down ws (base + v) o) ∙ le-leb k o h
+
+  pub open-deep : (cs₁ : List Activation) (k t : ℕ) → cs₁ ≡ cs → k ≤ o → 32 ≤ d → open-activation k t here ≡ fail (Trap Activations) (raw gs ws cs₁ d base v o pc st)
+  unfolding open-activation
+  open-deep cs₁ k t q h l = cond-true _ _ _ (enough k h) ∙ cond-false _ _ _ (ap (λ n. ltb n 32) (length-callers ws cs d) ∙ le-ltb d 32 l) ∙ ap (λ c. fail (Trap Activations) (raw gs ws c d base v o pc st)) (sym q)
+
+  -- the record of an activation that keeps its operands but the last k
+  abbrev pub suspended : ℕ → Activation
+  suspended k = record { resume = pc; base = base; variables = v; operands = o - k }
+
+  pub open-there : (cs₁ : List Activation) (k t : ℕ) → cs₁ ≡ set cs d (suspended k) → k ≤ o → d < 32 → d < length cs → base + v + o ≤ length ws → open-activation k t here ≡ ok tt (raw gs ws cs₁ (d + 1) (base + (v + (o - k))) k 0 t st)
+  unfolding open-activation
+  open-there cs₁ k t q h l m n =
+      let j : base + v + (o - k) ≡ base + (v + (o - k)) = omega arith in
+      let room : base + v + (o - k) + k ≤ length ws = omega arith in
+      let vs : reverse (take k (down ws (base + v) o)) ≡ take k (drop (base + (v + (o - k))) ws) =
+      ap reverse (take-down ws (base + v) o k h) ∙ reverse-down ws (base + v + (o - k)) k room ∙ ap (λ i. take k (drop i ws)) j in
+      let ks : record { resume = pc; words = record { variables = take v (drop base ws); operands = drop k (down ws (base + v) o) } } ∷ callers-of ws cs d ≡ callers-of ws (set cs d (suspended k)) (d + 1) =
+      rw add-one (ap₂ _∷_
+      (ap (λ xs. record { resume = pc; words = record { variables = take v (drop base ws); operands = xs } }) (drop-down ws (base + v) o k h) ∙ ap (caller-of ws) (sym (getD-set-same cs d (suspended k) blank m)))
+      (sym (callers-later ws cs d d (suspended k) (omega arith)))) in
+      cond-true _ _ _ (enough k h) ∙ cond-true _ _ _ (ap (λ n. ltb n 32) (length-callers ws cs d) ∙ lt-ltb d 32 l)
+      ∙ ap₂ (λ x y. ok tt (record { globals = gs; words = record { variables = x; operands = [] }; callers = y; pc = t; status = st })) vs ks
+      ∙ ap (λ c. ok tt (raw gs ws c (d + 1) (base + (v + (o - k))) k 0 t st)) (sym q)
+
+  pub close-none : (cs₁ : List Activation) → cs₁ ≡ cs → d ≡ 0 → close-activation here ≡ fail Broken (raw gs ws cs₁ d base v o pc st)
+  unfolding close-activation
+  close-none cs₁ q e = ap (λ n. closed (callers-of ws cs n) here) e ∙ ap (λ k. fail Broken (raw gs ws k d base v o pc st)) (sym q)
+
+  pub close-some : (cs₁ : List Activation) (a : Activation) → cs₁ ≡ cs → 0 < d → a ≡ getD cs (d - 1) blank → close-activation here ≡ ok tt (raw gs ws cs₁ (d - 1) (a .base) (a .variables) (a .operands) (a .resume) st)
+  unfolding close-activation
+  close-some cs₁ a q h e =
+      ap (λ ks. closed ks here) (last d h)
+      ∙ ap₂ (λ k x. ok tt (raw gs ws k (d - 1) (x .base) (x .variables) (x .operands) (x .resume) st)) (sym q) (sym e)
+    where
+      last : (n : ℕ) → 0 < n → callers-of ws cs n ≡ caller-of ws (getD cs (n - 1) blank) ∷ callers-of ws cs (n - 1)
+      last zero h = absurd (omega arith)
+      last (suc n) h = let q : suc n - 1 ≡ n = omega arith in rw q refl
+
+  pub promote-all : base + v + o ≤ length ws → raw gs ws cs d base (v + o) 0 pc st ≡ promoted here
+  promote-all l =
+      let a : v ≤ length (drop base ws) = omega (arith, length-drop base ws) in
+      ap (λ xs. record { globals = gs; words = record { variables = xs; operands = [] }; callers = callers-of ws cs d; pc = pc; status = st })
+      (take-both (drop base ws) v o a ∙ ap (λ ys. take v (drop base ws) ++ ys) (ap (take o) (drop-drop v base ws) ∙ sym (reverse-down ws (base + v) o l)))
+
+  pub make-full : (n : ℕ) → base + v ≤ length ws → 256 < v + o + n → make-variables n here ≡ fail Broken here
+  unfolding make-variables
+  make-full n l h = cond-false _ _ _ (ap (λ s. leb (s + n) 256) (sized l) ∙ lt-leb (v + o + n) 256 h)
+
+  pub size-is : base + v ≤ length ws → size (here .words) ≡ v + o
+  size-is l = sized l

@@ -8,7 +8,7 @@ use native.Mathlib.Numerals.{add-one}
 use native.Mathlib.Omega.{arith}
 use lib.IntN.{ℤ, pos}
 use lib.ListN.{length, getD, set, take, drop, length-drop, length-set}
-use Rattle.std.proofs.shelf.Lists.{getD-set-other, getD-set-same, getD-drop, getD-take, take-more, take-set-le, drop-set-lt, drop-set-add, length-take-le, drop-drop}
+use Rattle.std.proofs.shelf.Lists.{getD-set-other, getD-set-same, getD-drop, getD-take, take-more, take-set-le, drop-set-lt, drop-set-add, length-take-le, drop-drop, reverse-append}
 use Rattle.instructions.specs.State.{Caller}
 use Rattle.memory.specs.declared.activation.Activation.{Activation}
 use mathlib.Core.Bool.{Bool, true, false, _&&_}
@@ -102,3 +102,37 @@ pub getD-down : (ws : List ℤ) (from n k : ℕ) → k < n → getD (down ws fro
 getD-down ws from zero k h = absurd (omega arith)
 getD-down ws from (suc n) zero h = let e : suc n - 1 - 0 ≡ n = omega arith in rw e refl
 getD-down ws from (suc n) (suc k) h = let e : suc n - 1 - suc k ≡ n - 1 - k = omega arith in rw e (getD-down ws from n k (omega arith))
+
+pub drop-down : (ws : List ℤ) (from n k : ℕ) → k ≤ n → drop k (down ws from n) ≡ down ws from (n - k)
+drop-down ws from n zero h = let e : n - 0 ≡ n = omega arith in rw e refl
+drop-down ws from zero (suc k) h = absurd (omega arith)
+drop-down ws from (suc n) (suc k) h = let e : suc n - suc k ≡ n - k = omega arith in rw e (drop-down ws from n k (omega arith))
+
+pub take-down : (ws : List ℤ) (from n k : ℕ) → k ≤ n → take k (down ws from n) ≡ down ws (from + (n - k)) k
+take-down ws from n zero h = refl
+take-down ws from zero (suc k) h = absurd (omega arith)
+take-down ws from (suc n) (suc k) h =
+    let e : suc n - suc k ≡ n - k = omega arith in
+    let i : from + n ≡ from + (n - k) + k = omega arith in
+    ap₂ _∷_ (ap (λ j. getD ws j (pos 0)) i) (take-down ws from n k (omega arith)) ∙ ap (λ m. down ws (from + m) (suc k)) (sym e)
+
+-- a row in its own order
+pub reverse-down : (ws : List ℤ) (from n : ℕ) → from + n ≤ length ws → reverse (down ws from n) ≡ take n (drop from ws)
+reverse-down ws from zero h = refl
+reverse-down ws from (suc n) h =
+    let l : n < length (drop from ws) = omega (arith, length-drop from ws) in
+    let m : from + n ≤ length ws = omega arith in
+    reverse-append (getD ws (from + n) (pos 0) ∷ []) (down ws from n)
+    ∙ ap₂ (λ xs y. xs ++ y ∷ []) (reverse-down ws from n m) (sym (getD-drop from ws n (pos 0)))
+    ∙ sym (take-more (drop from ws) n (pos 0) l)
+    ∙ ap (λ k. take k (drop from ws)) (add-one n)
+
+-- two rows one after the other
+pub take-both : (ws : List ℤ) (m n : ℕ) → m ≤ length ws → take (m + n) ws ≡ take m ws ++ take n (drop m ws)
+take-both ws zero n h = ap (λ k. take k ws) (let e : 0 + n ≡ n = omega arith in e)
+take-both [] (suc m) n h = absurd (omega arith)
+take-both (w ∷ ws) (suc m) n h = let e : suc m + n ≡ suc (m + n) = omega arith in rw e (ap (λ xs. w ∷ xs) (take-both ws m n (omega arith)))
+
+pub length-callers : (ws : List ℤ) (cs : List Activation) (n : ℕ) → length (callers-of ws cs n) ≡ n
+length-callers ws cs zero = refl
+length-callers ws cs (suc n) = ap suc (length-callers ws cs n)

@@ -1,9 +1,9 @@
 -- What the table sees of a memory.
-use mathlib.Core.List.{List, [], _∷_}
+use mathlib.Core.List.{List, [], _∷_, _++_, reverse}
 use Prim.Native.Nat.{ℕ, zero, suc, _+_}
 use lib.IntN.{ℤ, pos}
 use lib.ListN.{getD, take, drop}
-use Rattle.instructions.specs.State.{Words, Caller, State}
+use Rattle.instructions.specs.State.{Words, Caller, State, holding}
 use Rattle.memory.specs.declared.activation.Activation.{Activation}
 use Rattle.memory.specs.declared.store.Memory.{Memory}
 use Rattle.memory.specs.Nested.{blank}
@@ -29,3 +29,7 @@ callers-of ws cs (suc n) = caller-of ws (getD cs n blank) ∷ callers-of ws cs n
 -- the state that a memory stands for
 unfoldable pub seen : Memory → State
 seen m = record { globals = m .globals; words = words-of (m .words) (m .base) (m .variables) (m .operands); callers = callers-of (m .words) (m .callers) (m .depth); pc = m .pc; status = m .status }
+
+-- all words of the newest activation are variables
+abbrev pub promoted : State → State
+promoted c = holding (record { variables = c .words .variables ++ reverse (c .words .operands); operands = [] }) c

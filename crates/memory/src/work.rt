@@ -1,13 +1,14 @@
 ghost use mathlib.Core.Path.{_≡_};
 ghost use Prim.Native.Nat.{ℕ, _+_, _%_, _^_, _<_, _≤_};
-ghost use Rattle.instructions.specs.Moves.{Done, pull, push, operand, variable, store-variable, global, store-global, open-activation, close-activation, replace};
+ghost use Rattle.instructions.specs.Moves.{Done, pull, push, operand, variable, store-variable, global, store-global, open-activation, close-activation, make-variables, replace};
 ghost use Rattle.instructions.specs.State.{State, start, became, at};
-ghost use Rattle.memory.specs.Seen.{seen};
+ghost use Rattle.memory.specs.Seen.{seen, promoted};
 use crate::activation::Activation;
 use crate::store::Memory;
 use instructions::answers::Fault;
 use instructions::answers::Status;
 use instructions::answers::Trap;
+use stack::Stack;
 
 /// An activation has room for 256 words.
 const ROOM: usize = 256;
@@ -22,7 +23,12 @@ impl Memory {
         Memory {
             globals: [0; 1024],
             words: [0; 8448],
-            callers: [Activation { resume: 0, base: 0, variables: 0, operands: 0 }; 32],
+            callers: [Activation {
+                resume: 0,
+                base: 0,
+                variables: 0,
+                operands: 0,
+            }; 32],
             depth: 0,
             base: 0,
             variables: 0,
@@ -141,6 +147,73 @@ impl Memory {
             return Err(fault);
         }
         self.globals[i] = x;
+        Ok(())
+    }
+
+    /// Opens an activation whose first variables are the newest operands; it begins at `target`.
+    pub fn open_activation(&mut self, arguments: usize, target: usize) -> Result<(), Fault>
+        ensures { λ r. ⌜ open-activation arguments target (seen (now (self .entry))) ≡ record { result = r; state = seen (now (self .exit)) } ⌝ }
+    {
+        if arguments > self.operands {
+            return Err(Fault::Broken);
+        }
+        let kept = self.operands - arguments;
+        let caller = Activation {
+            resume: self.pc,
+            base: self.base,
+            variables: self.variables,
+            operands: kept,
+        };
+        let mut open = Stack::over(&mut self.callers, self.depth);
+        match open.push(caller) {
+            Ok(()) => {}
+            Err(_) => return Err(Fault::Trap(Trap::Activations)),
+        }
+        self.depth += 1;
+        self.base += self.variables + kept;
+        self.variables = arguments;
+        self.operands = 0;
+        self.pc = target;
+        Ok(())
+    }
+
+    /// Closes the newest activation.
+    pub fn close_activation(&mut self) -> Result<(), Fault>
+        ensures { λ r. ⌜ close-activation (seen (now (self .entry))) ≡ record { result = r; state = seen (now (self .exit)) } ⌝ }
+    {
+        let mut open = Stack::over(&mut self.callers, self.depth);
+        match open.pop() {
+            None => Err(Fault::Broken),
+            Some(caller) => {
+                self.depth -= 1;
+                self.base = caller.base;
+                self.variables = caller.variables;
+                self.operands = caller.operands;
+                self.pc = caller.resume;
+                Ok(())
+            }
+        }
+    }
+
+    // All words of the newest activation become variables.
+    fn promote(&mut self)
+        ensures { λ _. ⌜ seen (now (self .exit)) ≡ promoted (seen (now (self .entry))) ⌝ }
+    {
+        self.variables += self.operands;
+        self.operands = 0;
+    }
+
+    /// Makes variables of all words of the newest activation, and `n` more that are 0.
+    pub fn make_variables(&mut self, n: u16) -> Result<(), Fault>
+        ensures { λ r. ⌜ make-variables n (seen (now (self .entry))) ≡ record { result = r; state = seen (now (self .exit)) } ⌝ }
+    {
+        if self.variables + self.operands + n as usize > ROOM {
+            return Err(Fault::Broken);
+        }
+        for i in 0..n {
+            let _ = self.push(0);
+        }
+        self.promote();
         Ok(())
     }
 }

@@ -3,7 +3,7 @@ use denote.Ref.{now}
 use mathlib.Core.List.{List, [], _∷_, _++_}
 use mathlib.Core.Path.{_≡_}
 use Prim.Native.Nat.{ℕ, _+_}
-use lib.ListN.{length, take, set}
+use lib.ListN.{length, take, set, getD}
 use Rattle.stack.specs.declared.pile.Stack.{Stack}
 
 -- the items, the oldest first
@@ -24,6 +24,7 @@ pub record Pushed {X : Type 0} (x : X) (before after : Stack X) : Type 0 where
 pub record Popped {X : Type 0} (x : X) (before after : Stack X) : Type 0 where
   pub items-were : items before ≡ items after ++ x ∷ []
   pub len-was : before .len ≡ after .len + 1
+  pub item-is : x ≡ getD (now (before .slots)) (after .len) x
   pub slots-are : now (after .slots) ≡ now (before .slots)
 
 -- nothing is altered
