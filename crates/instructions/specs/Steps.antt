@@ -34,14 +34,14 @@ pub data Effect : Type 0 where
   takes : (channel place : ℕ) → Effect
   -- it sets a channel to a value, and this is the memory then
   sets : (channel : ℕ) → ℤ → State → Effect
-  -- it has no effect, or there is none
+  -- it has no effect, or there is none: what is left of the memory
   breaks : State → Effect
   -- the board goes on no more
   stops : Effect
 
 -- what is not carried out: no effect, or a trap at the instruction's place
 abbrev pub failing : Fault → ℕ → State → Effect
-failing BrokenFault p c = breaks (became Broken c)
+failing BrokenFault p c = breaks c
 failing (Trapping t) p c = went (became (Trapped t p) c)
 
 abbrev pub settled : Result Unit Fault → ℕ → State → Effect
@@ -71,7 +71,7 @@ none = record { operation = End; operand = 0; place = 0 }
 
 -- the effect of the instruction at the state's index, where there is one
 abbrev pub fetched : List Instruction → State → Effect
-fetched code c = cond (ltb (c .pc) (length code)) (effect (getD code (c .pc) none) c) (breaks (became Broken c))
+fetched code c = cond (ltb (c .pc) (length code)) (effect (getD code (c .pc) none) c) (breaks c)
 
 abbrev pub going : Status → List Instruction → State → Effect
 going Running code c = fetched code c
@@ -121,18 +121,18 @@ pub data Move : Type 0 where
 abbrev pub took-or-waits : ℕ → ℕ → Result (Option ℤ) ℕ → View → Move
 took-or-waits n p (Ok (Some z)) v = did (took n z) (with-parts (delivered z (v .state)) (take-after (v .port) n) v)
 took-or-waits n p (Ok None) v = halted (Waits n p) v
-took-or-waits n p (Err e) v = halted IsBroken (with-parts (became Broken (v .state)) (v .port) v)
+took-or-waits n p (Err e) v = halted IsBroken (with-parts (became Broken (v .state)) (take-after (v .port) n) v)
 
 abbrev pub set-or-not : ℕ → ℤ → State → Result Unit ℕ → View → Move
 set-or-not n x w (Ok u) v = did (set-to n x) (with-parts w (set-after (v .port) n x) v)
-set-or-not n x w (Err e) v = halted IsBroken (with-parts (became Broken w) (v .port) v)
+set-or-not n x w (Err e) v = halted IsBroken (with-parts (became Broken w) (set-after (v .port) n x) v)
 
 -- what comes of an effect at the board's port
 abbrev pub met : Effect → View → Move
 met (went w) v = gone (with-parts w (v .port) v)
 met (takes n p) v = took-or-waits n p (take-answer (v .port) n) v
 met (sets n x w) v = set-or-not n x w (set-answer n) v
-met (breaks w) v = halted IsBroken (with-parts w (v .port) v)
+met (breaks w) v = halted IsBroken (with-parts (became Broken w) (v .port) v)
 met stops v = halted (spent (v .state .status)) v
 
 -- one step
