@@ -2,6 +2,7 @@
 pub mod machine;
 mod obey;
 pub mod refusal;
+mod run;
 mod step;
 
 pub use machine::Board;

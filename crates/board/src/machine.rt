@@ -4,7 +4,7 @@ use memory::Memory;
 /// A board that executes code over a port.
 #[derive(Drop)]
 pub struct Board<'a, P> {
-    code: &'a [Instruction],
-    memory: Memory,
-    port: P,
+    pub(crate) code: &'a [Instruction],
+    pub(crate) memory: Memory,
+    pub(crate) port: P,
 }
