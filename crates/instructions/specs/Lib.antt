@@ -5,3 +5,4 @@ pub mod Moves
 pub mod Values
 pub mod Table
 pub mod Steps
+pub mod Laws
