@@ -1,0 +1,5 @@
+pub mod Numbering
+pub mod Commuting
+pub mod Composing
+pub mod Feeding
+pub mod Bounding

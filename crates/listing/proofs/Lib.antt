@@ -1,0 +1,4 @@
+pub mod Naming
+pub mod Blanks
+pub mod Assembling
+pub mod Returning

@@ -1,0 +1,4 @@
+pub mod Rows
+pub mod Raw
+pub mod Growing
+pub mod Piling

@@ -1,0 +1,7 @@
+use mathlib.Core.Path.{refl}
+use Rattle.memory.specs.Seen.{seen}
+use Rattle.memory.proofs.store.Memory.pc.Needs as need
+
+pub returns : need.returns
+unfolding seen
+returns c = refl
