@@ -5,7 +5,9 @@ mod signs;
 pub mod tag;
 mod words;
 
+pub use characters::is_alphanumeric;
 pub use characters::is_digit;
+pub use characters::is_letter;
 pub use numbers::number_value;
 pub use signs::sign;
 pub use tag::Tag;
