@@ -8,7 +8,7 @@ use lib.ListN.{length, drop, length-append}
 use Rattle.std.proofs.shelf.Lists.{drop-at}
 use Rattle.grammar.specs.Ebnf.{ref, yield}
 use Rattle.grammar.specs.Reader.{Why, wrong, deep, Reads, Stops}
-use Rattle.grammar.specs.Language.{NT, Module, Decl, Proc, Pars, Body, Elem, Const, Set, Range, «Type», Stats, Stat, Action, If, While, Repeat, Loop, Return, For, Index, Args, Expr, Sum, Term, Factor, rule}
+use Rattle.grammar.specs.Language.{NT, Module, Decl, Proc, Heading, Pars, Body, Elem, Const, Set, Range, «Type», Stats, Stat, Action, If, While, Repeat, Loop, Return, For, Control, Index, Args, Expr, Sum, Term, Factor, rule}
 use Rattle.grammar.specs.Sets.{firsts, nulls, follows, rank}
 use Rattle.grammar.specs.Claims.{Program, symbols, limit, Answer, tree, impossible, tooDeep, Answers, Some-answer}
 use Rattle.grammar.proofs.Theory.{sound, stopped}
@@ -21,6 +21,7 @@ ranks-below : (n : NT) → rank n < 5
 ranks-below Module = lit< tt
 ranks-below Decl = lit< tt
 ranks-below Proc = lit< tt
+ranks-below Heading = lit< tt
 ranks-below Pars = lit< tt
 ranks-below Body = lit< tt
 ranks-below Elem = lit< tt
@@ -37,6 +38,7 @@ ranks-below Repeat = lit< tt
 ranks-below Loop = lit< tt
 ranks-below Return = lit< tt
 ranks-below For = lit< tt
+ranks-below Control = lit< tt
 ranks-below Index = lit< tt
 ranks-below Args = lit< tt
 ranks-below Expr = lit< tt

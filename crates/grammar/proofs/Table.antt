@@ -2,7 +2,7 @@
 use lib.Dec.{T}
 use Rattle.grammar.specs.Ebnf.{ref, Tree, unit, leaf, pair, left, right, nil, cons, node, under}
 use Rattle.grammar.specs.Reader.{passes}
-use Rattle.grammar.specs.Language.{NT, Module, Decl, Proc, Pars, Body, Elem, Const, Set, Range, «Type», Stats, Stat, Action, If, While, Repeat, Loop, Return, For, Index, Args, Expr, Sum, Term, Factor, rule}
+use Rattle.grammar.specs.Language.{NT, Module, Decl, Proc, Heading, Pars, Body, Elem, Const, Set, Range, «Type», Stats, Stat, Action, If, While, Repeat, Loop, Return, For, Control, Index, Args, Expr, Sum, Term, Factor, rule}
 use Rattle.grammar.specs.Sets.{firsts, nulls, follows, rank}
 
 -- by computation
@@ -10,6 +10,7 @@ pub check : (n : NT) → T (passes firsts nulls follows rank rule n)
 check Module = tt
 check Decl = tt
 check Proc = tt
+check Heading = tt
 check Pars = tt
 check Body = tt
 check Elem = tt
@@ -26,6 +27,7 @@ check Repeat = tt
 check Loop = tt
 check Return = tt
 check For = tt
+check Control = tt
 check Index = tt
 check Args = tt
 check Expr = tt
@@ -35,6 +37,9 @@ check Factor = tt
 
 least-Decl : Tree rule (ref Decl)
 least-Decl = node (left (pair (leaf 6 tt) (nil)))
+
+least-Heading : Tree rule (ref Heading)
+least-Heading = node (right (unit))
 
 least-Pars : Tree rule (ref Pars)
 least-Pars = node (pair (leaf 41 tt) (pair (nil) (pair (leaf 57 tt) (leaf 41 tt))))
@@ -76,7 +81,7 @@ least-Module : Tree rule (ref Module)
 least-Module = node (pair (leaf 23 tt) (pair (leaf 41 tt) (pair (leaf 56 tt) (pair (nil) (pair (least-Body) (pair (leaf 41 tt) (leaf 53 tt)))))))
 
 least-Proc : Tree rule (ref Proc)
-least-Proc = node (pair (leaf 28 tt) (pair (leaf 41 tt) (pair (right (unit)) (pair (leaf 56 tt) (pair (nil) (pair (least-Body) (pair (leaf 41 tt) (leaf 56 tt))))))))
+least-Proc = node (pair (leaf 28 tt) (pair (leaf 41 tt) (pair (least-Heading) (pair (leaf 56 tt) (pair (nil) (pair (least-Body) (pair (leaf 41 tt) (leaf 56 tt))))))))
 
 least-Stats : Tree rule (ref Stats)
 least-Stats = node (pair (least-Stat) (nil))
@@ -102,17 +107,21 @@ least-While = node (under 39 tt (pair (least-Expr) (pair (leaf 9 tt) (pair (leas
 least-Repeat : Tree rule (ref Repeat)
 least-Repeat = node (under 31 tt (pair (least-Stats) (pair (leaf 37 tt) (least-Expr))))
 
-least-For : Tree rule (ref For)
-least-For = node (under 15 tt (pair (leaf 41 tt) (pair (leaf 52 tt) (pair (least-Expr) (pair (leaf 35 tt) (pair (least-Expr) (pair (right (unit)) (pair (leaf 9 tt) (pair (least-Stats) (leaf 12 tt))))))))))
+least-Control : Tree rule (ref Control)
+least-Control = node (pair (leaf 41 tt) (pair (leaf 52 tt) (pair (least-Expr) (pair (leaf 35 tt) (pair (least-Expr) (right (unit)))))))
 
 least-Index : Tree rule (ref Index)
 least-Index = node (under 60 tt (pair (least-Expr) (leaf 61 tt)))
+
+least-For : Tree rule (ref For)
+least-For = node (under 15 tt (pair (least-Control) (pair (leaf 9 tt) (pair (least-Stats) (leaf 12 tt)))))
 
 -- a sentence of each
 pub least : (n : NT) → Tree rule (ref n)
 least Module = least-Module
 least Decl = least-Decl
 least Proc = least-Proc
+least Heading = least-Heading
 least Pars = least-Pars
 least Body = least-Body
 least Elem = least-Elem
@@ -129,6 +138,7 @@ least Repeat = least-Repeat
 least Loop = least-Loop
 least Return = least-Return
 least For = least-For
+least Control = least-Control
 least Index = least-Index
 least Args = least-Args
 least Expr = least-Expr

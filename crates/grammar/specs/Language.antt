@@ -5,10 +5,10 @@ use Rattle.vocabulary.specs.declared.tag.Tag.the-variants as tag
 use Rattle.grammar.specs.Ebnf.{factor, statement, G, tok, rep, ref, nest, opt, _⨾_, _∣_}
 use Rattle.grammar.specs.Codes.{code, codes}
 
--- the rules. Of a statement, what begins with a name and the six that begin with a word of their own have rules apart, and so
--- has an index
+-- the rules. Of a statement, what begins with a name and the six that begin with a word of their own have rules apart; so have
+-- an index, the control of a FOR, and what stands behind a procedure's name
 pub data NT : Type 0 where
-  Module Decl Proc Pars Body Elem Const Set Range «Type» Stats Stat Action If While Repeat Loop Return For Index Args Expr Sum Term Factor : NT
+  Module Decl Proc Heading Pars Body Elem Const Set Range «Type» Stats Stat Action If While Repeat Loop Return For Control Index Args Expr Sum Term Factor : NT
 
 -- one symbol with this tag; with this tag or one of these
 abbrev pub sign : Tag → G NT
@@ -34,9 +34,9 @@ rule Decl =
     sign tag.Const ⨾ rep (n ⨾ sign tag.Equal ⨾ ref Const ⨾ sign tag.Semicolon)
     ∣ sign tag.Var ⨾ rep (n ⨾ rep (sign tag.Comma ⨾ n) ⨾ sign tag.Colon ⨾ ref «Type» ⨾ sign tag.Semicolon)
 rule Proc =
-    sign tag.Procedure ⨾ n
-    ⨾ opt (sign tag.OpenRound ⨾ opt (ref Pars ⨾ rep (sign tag.Semicolon ⨾ ref Pars)) ⨾ sign tag.CloseRound ⨾ opt (sign tag.Colon ⨾ n))
-    ⨾ sign tag.Semicolon ⨾ rep (ref Decl) ⨾ ref Body ⨾ n ⨾ sign tag.Semicolon
+    sign tag.Procedure ⨾ n ⨾ ref Heading ⨾ sign tag.Semicolon ⨾ rep (ref Decl) ⨾ ref Body ⨾ n ⨾ sign tag.Semicolon
+rule Heading =
+    opt (sign tag.OpenRound ⨾ opt (ref Pars ⨾ rep (sign tag.Semicolon ⨾ ref Pars)) ⨾ sign tag.CloseRound ⨾ opt (sign tag.Colon ⨾ n))
 rule Pars = n ⨾ rep (sign tag.Comma ⨾ n) ⨾ sign tag.Colon ⨾ n
 rule Body = opt (sign tag.Begin ⨾ ref Stats) ⨾ sign tag.End
 rule Elem = opt (sign tag.Minus) ⨾ sign tag.Number ∣ n
@@ -54,9 +54,8 @@ rule While = within tag.While (ref Expr ⨾ sign tag.Do ⨾ ref Stats ⨾ sign t
 rule Repeat = within tag.Repeat (ref Stats ⨾ sign tag.Until ⨾ ref Expr)
 rule Loop = within tag.Loop (ref Stats ⨾ sign tag.End)
 rule Return = sign tag.Return ⨾ opt (ref Expr)
-rule For =
-    within tag.For (n ⨾ sign tag.Becomes ⨾ ref Expr ⨾ sign tag.To ⨾ ref Expr ⨾ opt (sign tag.By ⨾ ref Elem)
-    ⨾ sign tag.Do ⨾ ref Stats ⨾ sign tag.End)
+rule For = within tag.For (ref Control ⨾ sign tag.Do ⨾ ref Stats ⨾ sign tag.End)
+rule Control = n ⨾ sign tag.Becomes ⨾ ref Expr ⨾ sign tag.To ⨾ ref Expr ⨾ opt (sign tag.By ⨾ ref Elem)
 rule Index = around tag.OpenSquare (ref Expr ⨾ sign tag.CloseSquare)
 rule Args = around tag.OpenRound (opt (ref Expr ⨾ rep (sign tag.Comma ⨾ ref Expr)) ⨾ sign tag.CloseRound)
 rule Expr = ref Sum ⨾ opt (one tag.Equal (tag.NotEqual ∷ tag.Less ∷ tag.AtMost ∷ tag.Greater ∷ tag.AtLeast ∷ tag.In ∷ []) ⨾ ref Sum)

@@ -4,13 +4,14 @@ use mathlib.Core.Bool.{Bool, true, false}
 use Prim.Native.Nat.{ℕ}
 use Rattle.vocabulary.specs.declared.tag.Tag.the-variants as tag
 use Rattle.grammar.specs.Codes.{codes}
-use Rattle.grammar.specs.Language.{NT, Module, Decl, Proc, Pars, Body, Elem, Const, Set, Range, «Type», Stats, Stat, Action, If, While, Repeat, Loop, Return, For, Index, Args, Expr, Sum, Term, Factor}
+use Rattle.grammar.specs.Language.{NT, Module, Decl, Proc, Heading, Pars, Body, Elem, Const, Set, Range, «Type», Stats, Stat, Action, If, While, Repeat, Loop, Return, For, Control, Index, Args, Expr, Sum, Term, Factor}
 
 -- what each can begin with
 abbrev pub firsts : NT → List ℕ
 firsts Module = codes (tag.Module ∷ [])
 firsts Decl = codes (tag.Const ∷ tag.Var ∷ [])
 firsts Proc = codes (tag.Procedure ∷ [])
+firsts Heading = codes (tag.OpenRound ∷ [])
 firsts Pars = codes (tag.Identifier ∷ [])
 firsts Body = codes (tag.Begin ∷ tag.End ∷ [])
 firsts Elem = codes (tag.Minus ∷ tag.Number ∷ tag.Identifier ∷ [])
@@ -27,6 +28,7 @@ firsts Repeat = codes (tag.Repeat ∷ [])
 firsts Loop = codes (tag.Loop ∷ [])
 firsts Return = codes (tag.Return ∷ [])
 firsts For = codes (tag.For ∷ [])
+firsts Control = codes (tag.Identifier ∷ [])
 firsts Index = codes (tag.OpenSquare ∷ [])
 firsts Args = codes (tag.OpenRound ∷ [])
 firsts Expr = codes (tag.Plus ∷ tag.Minus ∷ tag.Number ∷ tag.OpenCurly ∷ tag.Identifier ∷ tag.OpenRound ∷ tag.Not ∷ [])
@@ -39,6 +41,7 @@ abbrev pub nulls : NT → Bool
 nulls Module = false
 nulls Decl = false
 nulls Proc = false
+nulls Heading = true
 nulls Pars = false
 nulls Body = false
 nulls Elem = false
@@ -55,6 +58,7 @@ nulls Repeat = false
 nulls Loop = false
 nulls Return = false
 nulls For = false
+nulls Control = false
 nulls Index = false
 nulls Args = false
 nulls Expr = false
@@ -67,6 +71,7 @@ abbrev pub follows : NT → List ℕ
 follows Module = []
 follows Decl = codes (tag.Const ∷ tag.Var ∷ tag.Procedure ∷ tag.Begin ∷ tag.End ∷ [])
 follows Proc = codes (tag.Const ∷ tag.Var ∷ tag.Procedure ∷ tag.Begin ∷ tag.End ∷ [])
+follows Heading = codes (tag.Semicolon ∷ [])
 follows Pars = codes (tag.Semicolon ∷ tag.CloseRound ∷ [])
 follows Body = codes (tag.Identifier ∷ [])
 follows Elem = codes (tag.Semicolon ∷ tag.Range ∷ tag.Comma ∷ tag.CloseCurly ∷ tag.CloseSquare ∷ tag.Do ∷ [])
@@ -83,6 +88,7 @@ follows Repeat = codes (tag.Semicolon ∷ tag.End ∷ tag.Elsif ∷ tag.Else ∷
 follows Loop = codes (tag.Semicolon ∷ tag.End ∷ tag.Elsif ∷ tag.Else ∷ tag.Until ∷ [])
 follows Return = codes (tag.Semicolon ∷ tag.End ∷ tag.Elsif ∷ tag.Else ∷ tag.Until ∷ [])
 follows For = codes (tag.Semicolon ∷ tag.End ∷ tag.Elsif ∷ tag.Else ∷ tag.Until ∷ [])
+follows Control = codes (tag.Do ∷ [])
 follows Index = codes (tag.Becomes ∷ tag.Times ∷ tag.Div ∷ tag.Mod ∷ tag.And ∷ tag.Plus ∷ tag.Minus ∷ tag.Or ∷ tag.Equal ∷ tag.NotEqual ∷ tag.Less ∷ tag.AtMost ∷ tag.Greater ∷ tag.AtLeast ∷ tag.In ∷ tag.Semicolon ∷ tag.End ∷ tag.Then ∷ tag.Do ∷ tag.To ∷ tag.By ∷ tag.CloseSquare ∷ tag.Comma ∷ tag.CloseRound ∷ tag.Elsif ∷ tag.Else ∷ tag.Until ∷ [])
 follows Args = codes (tag.Semicolon ∷ tag.End ∷ tag.Times ∷ tag.Div ∷ tag.Mod ∷ tag.And ∷ tag.Plus ∷ tag.Minus ∷ tag.Or ∷ tag.Equal ∷ tag.NotEqual ∷ tag.Less ∷ tag.AtMost ∷ tag.Greater ∷ tag.AtLeast ∷ tag.In ∷ tag.Then ∷ tag.Do ∷ tag.To ∷ tag.By ∷ tag.CloseSquare ∷ tag.Comma ∷ tag.CloseRound ∷ tag.Elsif ∷ tag.Else ∷ tag.Until ∷ [])
 follows Expr = codes (tag.Semicolon ∷ tag.End ∷ tag.Then ∷ tag.Do ∷ tag.To ∷ tag.By ∷ tag.CloseSquare ∷ tag.Comma ∷ tag.CloseRound ∷ tag.Elsif ∷ tag.Else ∷ tag.Until ∷ [])
@@ -95,6 +101,7 @@ abbrev pub rank : NT → ℕ
 rank Module = 0
 rank Decl = 0
 rank Proc = 0
+rank Heading = 0
 rank Pars = 0
 rank Body = 0
 rank Elem = 0
@@ -111,6 +118,7 @@ rank Repeat = 0
 rank Loop = 0
 rank Return = 0
 rank For = 0
+rank Control = 0
 rank Index = 0
 rank Args = 0
 rank Expr = 4

@@ -15,10 +15,12 @@ use Rattle.std.specs.declared.result.Result.the-variants.{Ok, Err}
 use Rattle.std.proofs.shelf.Lists.{drop-all}
 use Rattle.lexer.specs.declared.symbol.SymbolRecord.{SymbolRecord}
 use Rattle.grammar.specs.Ebnf.{Kind, factor, statement, G, eps, tok, seq, alt, rep, ref, nest, mem, Tree, unit, leaf, pair, left, right, nil, cons, node, under, yield}
-use Rattle.grammar.specs.Reader.{hd, first, Why, wrong, deep, Reads, r-eps, r-tok, r-seq, r-left, r-right, r-nil, r-cons, r-node, r-factor, r-statement, Stops, s-tok, s-seq, s-then, s-left, s-right, s-item, s-more, s-node, s-out, s-factors, s-statements, s-factor, s-statement}
+use Rattle.grammar.specs.Reader.{hd, first, null, Why, wrong, deep, Reads, r-eps, r-tok, r-seq, r-left, r-right, r-nil, r-cons, r-node, r-factor, r-statement, Stops, s-tok, s-seq, s-then, s-left, s-right, s-item, s-more, s-node, s-out, s-factors, s-statements, s-factor, s-statement}
 use Rattle.grammar.specs.Language.{NT, rule}
-use Rattle.grammar.specs.Sets.{firsts, nulls}
+use Rattle.grammar.specs.Sets.{firsts, nulls, follows, rank}
 use Rattle.grammar.proofs.Classes.{or-left}
+use Rattle.grammar.proofs.Decides as decides
+use Rattle.grammar.proofs.Table.{check}
 use Rattle.parser.specs.declared.step.Cursor.{Cursor}
 use Rattle.parser.specs.declared.step.Stop.{Stop}
 use Rattle.parser.specs.declared.step.Stop.the-variants.{Impossible, TooDeep}
@@ -359,6 +361,45 @@ module _ (source : List ℕ) (symbols : List SymbolRecord) where
             wrote = record { mid = c⁺ a; came = q ∙ advanced-on a (k ∷ c) o; opened = refl; one = record { on = refl; same = refl; used = refl }; two = m .wrote };
           }
 
+  pub goes-within : {d e e′ k : ℕ} {c : List ℕ} {g : G NT} {P : Wrote g} {s s₁ s₂ : Result Cursor Stop} {t t₂ : List TreeRecord} → e ≡ suc e′ → s₁ ≡ advanced symbols s → On w s (k ∷ c) →
+      Goes source symbols d e′ g P s₁ t s₂ t₂ → Goes source symbols d e (nest statement k c g) (Inside g P s₁) s t s₂ t₂
+  goes-within {d} {e} {e′} {k} {c} {g} {P} {s} {s₁} {s₂} {t} {t₂} z q o p = record { went = subst (λ y. Went source symbols d y (nest statement k c g) (Inside g P s₁) s t s₂ t₂) (sym z) (go s s₂ o q (p .went)) }
+    where
+      c⁺ : Cursor → Cursor
+      c⁺ a = record { at = a .at + 1; used = a .used }
+
+      go : (s s₂ : Result Cursor Stop) → On w s (k ∷ c) → s₁ ≡ advanced symbols s → Went source symbols d e′ g P s₁ t s₂ t₂ → Went source symbols d (suc e′) (nest statement k c g) (Inside g P s₁) s t s₂ t₂
+      go (Err z) s₂ o q p = subst (λ x. Went source symbols d e′ g P x t s₂ t₂) q p
+      go (Ok a) (Err (Impossible j)) o q p =
+          let i = inside w (a .at) (k ∷ c) (o .free) (o .is) in
+          let b = subst (λ x. Went source symbols d e′ g P x t (Err (Impossible j)) t₂) (q ∙ advanced-on a (k ∷ c) o) p in
+          let x = b in
+          let f : a .at + 1 ≡ suc (a .at) = omega arith in
+          record { inside = λ l. x .inside (omega arith); stops = subst (λ y. Stops rule firsts nulls d (suc e′) (nest statement k c g) y wrong (drop j w)) (sym (drop-cons w (a .at) 0 i)) (s-statement (o .is) (subst (λ y. Stops rule firsts nulls d e′ g (drop y w) wrong (drop j w)) f (x .stops))) }
+      go (Ok a) (Err (TooDeep j)) o q p =
+          let i = inside w (a .at) (k ∷ c) (o .free) (o .is) in
+          let b = subst (λ x. Went source symbols d e′ g P x t (Err (TooDeep j)) t₂) (q ∙ advanced-on a (k ∷ c) o) p in
+          let x = b in
+          let f : a .at + 1 ≡ suc (a .at) = omega arith in
+          record { inside = λ l. x .inside (omega arith); stops = subst (λ y. Stops rule firsts nulls d (suc e′) (nest statement k c g) y deep (drop j w)) (sym (drop-cons w (a .at) 0 i)) (s-statement (o .is) (subst (λ y. Stops rule firsts nulls d e′ g (drop y w) deep (drop j w)) f (x .stops))) }
+      go (Ok a) (Ok a₂) o q p =
+          let i = inside w (a .at) (k ∷ c) (o .free) (o .is) in
+          let b = subst (λ x. Went source symbols d e′ g P x t (Ok a₂) t₂) (q ∙ advanced-on a (k ∷ c) o) p in
+          let m = b in
+          let f : a .at + 1 ≡ suc (a .at) = omega arith in
+          let y = m .got .span in
+          record {
+            val = (a .at, m .val);
+            got = record {
+              within = λ l. m .got .within (omega arith);
+              tree = under (getD w (a .at) 0) (o .is) (m .got .tree);
+              reads = subst (λ x. Reads rule firsts nulls d (suc e′) (nest statement k c g) x (under (getD w (a .at) 0) (o .is) (m .got .tree)) (drop (a₂ .at) w)) (sym (drop-cons w (a .at) 0 i)) (r-statement (o .is) (subst (λ x. Reads rule firsts nulls d e′ g (drop x w) (m .got .tree) (drop (a₂ .at) w)) f (m .got .reads)));
+              span = omega arith;
+              is = ap (λ x. (a .at, x)) (ap (value rule Syntax (act source symbols) (m .got .tree)) (sym f) ∙ m .got .is);
+            };
+            wrote = record { mid = c⁺ a; came = q ∙ advanced-on a (k ∷ c) o; opened = refl; one = record { on = refl; same = refl; used = refl }; two = m .wrote };
+          }
+
   -- with a record written behind
   pub record Pushing (g : G NT) (r : TreeRecord) (P : Wrote g) (s₁ : Result Cursor Stop) (t₁ : List TreeRecord) (v : Val Syntax g) (c : Cursor) (t : List TreeRecord) (c₂ : Cursor) (t₂ : List TreeRecord) : Type 0 where
     pub mid : Cursor
@@ -539,6 +580,30 @@ module _ (source : List ℕ) (symbols : List SymbolRecord) where
         };
         stops = λ φ k x. record { inside = x .inside; stops = skipped-stops (x .stops) };
       }) p
+
+  -- what cannot be empty leaves fewer
+  not-empty : {g : G NT} (t : Tree rule g) → T (not (null firsts nulls g)) → 0 < length (yield rule t)
+  not-empty {g} t n = go (yield rule t) refl
+    where
+      go : (u : List ℕ) → yield rule t ≡ u → 0 < length (yield rule t)
+      go [] e = elim (decides.starts rule firsts nulls follows rank check t []) [
+        | inl b ↦ absurd (subst (λ x. T (hd (F g) (x ++ []))) e b)
+        | inr z ↦ absurd (T-not (null firsts nulls g) n (z .1))
+      ]
+      go (a ∷ u) e = let l = ap length e in omega arith
+
+  pub goes-shrinks : {d e : ℕ} {c : List ℕ} {g : G NT} {P : Wrote g} {s s′ : Result Cursor Stop} {t t′ : List TreeRecord} → T (not (null firsts nulls g)) → On w s c → Goes source symbols d e g P s t s′ t′ → remaining symbols s′ < remaining symbols s
+  goes-shrinks {d} {e} {c} {g} {P} {s} {s′} {t} {t′} z o p = go s s′ o (p .went)
+    where
+      go : (s s′ : Result Cursor Stop) → On w s c → Went source symbols d e g P s t s′ t′ → remaining symbols s′ < remaining symbols s
+      go (Err z) s′ o p = absurd (T-not (mem 0 c) (o .free) (o .is))
+      go (Ok a) (Err z) o p = let i = inside w (a .at) c (o .free) (o .is) in let n = tags-long symbols in omega arith
+      go (Ok a) (Ok b) o m =
+          let i = inside w (a .at) c (o .free) (o .is) in
+          let n = tags-long symbols in
+          let x = m .got .span in
+          let y = not-empty (m .got .tree) z in
+          omega arith
 
 -- from what the code has tested
 pub on-by : {v c : List ℕ} {s : Result Cursor Stop} (k : ℕ) → k ≡ nextCode v s → T (not (mem 0 c)) → T (mem k c) → On v s c

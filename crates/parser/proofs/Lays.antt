@@ -175,3 +175,57 @@ pub leaf-adds : {r : TreeRecord} {c c₁ c₂ : Cursor} {t t₁ t₂ : List Tree
 leaf-adds l p e a =
     let h₀ = p .on in let h₁ = p .used in let h₂ = ap length (p .same) in let h₃ = a .at in let h₄ = a .most in let h₅ = a .long in
     record { long = omega arith; few = omega arith; laid = laid-from p (laid-leaf l e a) }
+
+-- with more to spare
+pub lays-lift : {k : ℕ} {s : Syntax} {c c₁ : Cursor} {t t₁ : List TreeRecord} (j : ℕ) → Lays k s c t c₁ t₁ → Lays (k + j) s c t c₁ t₁
+lays-lift j a = let h = a .few in record { long = a .long; few = omega arith; laid = a .laid }
+
+-- no symbol
+pub passed-none : {c : Cursor} {t : List TreeRecord} → Passed 0 c t c t
+passed-none = record { on = omega arith; same = refl; used = refl }
+
+-- symbols before a tree, which pay for what is too many
+pub lays-paid : {n k : ℕ} {s : Syntax} {c c₁ c₂ : Cursor} {t t₁ t₂ : List TreeRecord} → Passed n c t c₁ t₁ → Lays k s c₁ t₁ c₂ t₂ → (j : ℕ) → k ≤ 2 * n + j → Lays j s c t c₂ t₂
+lays-paid p a j z =
+    let h₀ = p .on in let h₁ = p .used in let h₂ = ap length (p .same) in let h₃ = a .few in let h₄ = a .long in
+    record { long = omega arith; few = omega arith; laid = laid-from p (a .laid) }
+
+-- one extension behind another
+pub extends-both : {k m : ℕ} {f g : Syntax → Syntax} {c c₁ c₂ : Cursor} {t t₁ t₂ : List TreeRecord} → Extends k f c t c₁ t₁ → Extends m g c₁ t₁ c₂ t₂ → Extends (k + m) (λ a. g (f a)) c t c₂ t₂
+extends-both {f} {c} {c₁} {c₂} {t} {t₁} {t₂} p q =
+    let h₀ = p .few in let h₁ = q .few in let h₂ = p .long in let h₃ = q .long in
+    record {
+      long = omega arith;
+      grows = λ b.
+          let g₀ = q .grows b in let g₁ = b .0 in let g₂ = b .1 in
+          let b₁ : Room c₁ t₁ = (omega arith, omega arith) in
+          let g₃ = p .grows b₁ in omega arith;
+      few = omega arith;
+      laid = λ a n b l. q .laid (f a) n b (p .laid a n b l);
+    }
+
+-- symbols and a record over what was there
+pub extends-unary : {n : ℕ} {l : Label} {r : TreeRecord} {c c₁ c₂ : Cursor} {t t₁ t₂ : List TreeRecord} → Passed n c t c₁ t₁ → Added r c₁ t₁ c₂ t₂ → r ≡ entry l (c .used - 1) 0 → (j : ℕ) → 1 ≤ 2 * n + j → Extends j (λ a. unary l a) c t c₂ t₂
+extends-unary {n} {l} {r} {c} {c₁} {c₂} {t} {t₁} {t₂} p a e j z =
+    let h₀ = p .on in let h₁ = p .used in let h₂ = ap length (p .same) in let h₃ = a .at in let h₄ = a .most in let h₅ = a .long in
+    record {
+      long = omega arith;
+      grows = λ b. let g₀ = a .count b in omega arith;
+      few = omega arith;
+      laid = λ x i b d. laid-unary l (laid-passed d p) (e ∙ ap (λ v. entry l (v - 1) 0) (sym h₁)) a;
+    }
+
+-- one more part and the record that joins it, where the part leaves room for that
+pub extends-laid : {l : Label} {s : Syntax} {r : TreeRecord} {c c₁ c₂ : Cursor} {t t₁ t₂ : List TreeRecord} → length t₁ ≡ length t → Laid (c .used) t s c₁ t₁ → Added r c₁ t₁ c₂ t₂ → r ≡ entry l (c .used - 1) (c₁ .used - 1) →
+    suc (c₁ .used + 2 * c .at) ≤ c .used + 2 * c₁ .at → Extends 0 (λ a. binary l a s) c t c₂ t₂
+extends-laid {l} {s} {r} {c} {c₁} {c₂} {t} {t₁} {t₂} long q a e z =
+    let h₅ = a .at in let h₆ = a .most in let h₇ = a .long in
+    record {
+      long = omega arith;
+      grows = λ b.
+          let g₁ = b .0 in let g₂ = b .1 in let g₃ = a .count b in
+          let b₁ : Room c₁ t₁ = (omega arith, omega arith) in
+          let g₄ = q .count b₁ in omega arith;
+      few = omega arith;
+      laid = λ y i b d. laid-binary l d q long e a;
+    }

@@ -7,7 +7,7 @@ use Rattle.vocabulary.specs.declared.tag.Tag.{Tag}
 use Rattle.vocabulary.specs.declared.tag.Tag.the-variants as tag
 use Rattle.lexer.specs.declared.symbol.SymbolRecord.{SymbolRecord}
 use Rattle.lexer.specs.Records.{zeroRecord}
-use Rattle.grammar.specs.Language.{NT, Module, Decl, Proc, Pars, Body, Elem, Const, Set, Range, «Type», Stats, Stat, Action, If, While, Repeat, Loop, Return, For, Index, Args, Expr, Sum, Term, Factor, rule}
+use Rattle.grammar.specs.Language.{NT, Module, Decl, Proc, Heading, Pars, Body, Elem, Const, Set, Range, «Type», Stats, Stat, Action, If, While, Repeat, Loop, Return, For, Control, Index, Args, Expr, Sum, Term, Factor, rule}
 use Rattle.parser.specs.declared.tree.NodeKind.{NodeKind}
 use Rattle.parser.specs.declared.tree.NodeKind.the-variants as kind
 use Rattle.parser.specs.Symbols.{placeOf, wordLength, numberAt}
@@ -116,7 +116,8 @@ module _ (source : List ℕ) (symbols : List SymbolRecord) where
   act Decl (inl (i, cs)) = list (λ c. unary (named kind.Constant (c .0)) (c .1 .1 .0)) (leaf (at kind.Constants i)) cs
   act Decl (inr (i, vs)) = list (λ v. binary (bare kind.Variable) (names (v .0) (v .1 .0)) (v .1 .1 .1 .0)) (leaf (at kind.Variables i)) vs
   act Proc (p, (i, (h, (s, (ds, (b, (j, c))))))) =
-      binary (named kind.Procedure i) (heading h) (binary (bare kind.Block) (list (λ d. d) empty ds) (unary (named kind.Closing j) b))
+      binary (named kind.Procedure i) h (binary (bare kind.Block) (list (λ d. d) empty ds) (unary (named kind.Closing j) b))
+  act Heading h = heading h
   act Pars (i, (is, (c, j))) = binary (bare kind.Parameters) (names i is) (name j)
   act Body (ss, i) = unary (at kind.Body i) (behind ss)
   act Elem (inl (inl i, j)) = leaf (valued kind.Negative i (numberAt source (placeOf symbols j)))
@@ -145,8 +146,9 @@ module _ (source : List ℕ) (symbols : List SymbolRecord) where
   act Repeat (i, (s, (j, e))) = binary (at kind.Repeat i) s e
   act Loop (i, (s, k)) = unary (until kind.Loop i k) s
   act Return (i, e) = unary (at kind.Return i) (maybe e)
-  act For (i, (j, (b, (x, (o, (y, (z, (d, (s, k))))))))) =
-      binary (until kind.For i k) (unary (named kind.Control j) (binary (bare kind.Terms) (binary (bare kind.Limits) x y) (behind z))) s
+  act For (i, (c, (j, (s, k)))) = binary (until kind.For i k) c s
+  act Control (i, (b, (x, (o, (y, z))))) =
+      unary (named kind.Control i) (binary (bare kind.Terms) (binary (bare kind.Limits) x y) (behind z))
   act Index (i, (e, j)) = unary (at kind.Index i) e
   act Args (i, (es, j)) = separated es
   act Expr (a, b) = related a b

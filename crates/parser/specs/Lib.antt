@@ -4,3 +4,4 @@ pub mod Syntax
 pub mod Actions
 pub mod Post
 pub mod Forms
+pub mod Parsing

@@ -74,7 +74,7 @@ fn is_sign(tag: Tag) -> bool
 }
 
 /// A symbol that an expression begins with.
-fn begins_expr(tag: Tag) -> bool
+pub(crate) fn begins_expr(tag: Tag) -> bool
     ensures { λ r. ⌜ r ≡ mem (code tag) (firsts Expr) ⌝ }
 {
     match tag {
