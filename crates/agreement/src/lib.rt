@@ -1,4 +1,6 @@
 // The code of resolved programs, and its agreement with their meaning; no code but the theorems.
+#![tactic(auto)]
+
 ghost use Rattle.agreement.specs.Jumps.{JumpsBackAreRounds};
 ghost use Rattle.agreement.specs.Claims.{CodeFits, NeverBroken, EventsAgree, OutcomesAgree, OutcomesAreReached, OutcomesAreBounded, EventsAreBounded};
 

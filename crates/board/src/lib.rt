@@ -1,4 +1,6 @@
 //! A board that executes instructions over a port of any make.
+#![tactic(auto)]
+
 pub mod machine;
 pub mod refusal;
 mod run;

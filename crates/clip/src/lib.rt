@@ -1,4 +1,6 @@
 //! A port that keeps what is set within a band.
+#![tactic(auto)]
+
 pub mod bands;
 
 ghost use Rattle.std.specs.Prelude.{◌≡◌};

@@ -1,4 +1,6 @@
 //! Runs the code list in a file on a board, and answers the script on standard input.
+#![tactic(auto)]
+
 use console::play::play;
 use std::io::Read;
 use std::{env, fs, io};

@@ -1,5 +1,7 @@
 //! The program `execute` on many code lists, each with a script.
 //! A case is a line `= NAME`, a code list, a line `-` and a script.
+#![tactic(auto)]
+
 use console::play::play;
 use std::{fs, io};
 

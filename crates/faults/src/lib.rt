@@ -1,4 +1,6 @@
 // The one fault type of the compiler: what is wrong, and where.
+#![tactic(auto)]
+
 pub mod kind;
 mod numbers;
 

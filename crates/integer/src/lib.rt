@@ -1,4 +1,6 @@
 // INTEGER arithmetic: range-checked operations, the division pair, bands, and sets as sums of powers of two.
+#![tactic(auto)]
+
 pub mod arithmetic;
 pub mod bands;
 pub mod division;

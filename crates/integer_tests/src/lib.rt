@@ -1,3 +1,5 @@
 // Worked examples of INTEGER arithmetic.
+#![tactic(auto)]
+
 #[cfg(test)]
 mod tests;

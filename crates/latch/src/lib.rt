@@ -1,4 +1,6 @@
 //! A port that holds one sample on each channel.
+#![tactic(auto)]
+
 ghost use Rattle.std.specs.Prelude.{◌≡◌, []};
 ghost use Rattle.latch.specs.Latched.{latched};
 ghost use Rattle.latch.specs.Lawful.{latched_lawful};

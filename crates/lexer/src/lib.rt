@@ -1,4 +1,6 @@
 // The symbols of a source: the next one from a place on, and all of them in a lent list of records.
+#![tactic(auto)]
+
 mod next;
 mod parts;
 mod records;

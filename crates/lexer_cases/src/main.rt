@@ -2,6 +2,8 @@
 // its symbols or its fault.
 // A line that begins with % is passed over. In a source, \t \r \n and \\ are a tab, a carriage return, a
 // line feed and a backslash, \xHH is the byte HH, and \#NNNNNc is the byte c, NNNNN times.
+#![tactic(auto)]
+
 mod decode;
 
 use decode::decode;

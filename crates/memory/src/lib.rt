@@ -1,4 +1,6 @@
 //! The memory of a board: global words, and the activations with their words.
+#![tactic(auto)]
+
 pub mod activation;
 mod reads;
 pub mod store;

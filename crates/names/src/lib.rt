@@ -1,4 +1,6 @@
 //! The names of operations.
+#![tactic(auto)]
+
 ghost use Rattle.std.specs.Prelude.{◌≡◌};
 ghost use Rattle.instructions.specs.Numbers.{table};
 ghost use Rattle.names.specs.Names.{spelt, named};

@@ -1,4 +1,6 @@
 //! Numbers in the words of a script, checked against their bounds.
+#![tactic(auto)]
+
 ghost use Rattle.std.specs.Prelude.{pos};
 ghost use Rattle.integer.specs.Ends.{integer};
 ghost use Rattle.number.specs.Numbers.{Number, whole};

@@ -1,4 +1,6 @@
 // Lists the syntax tree of the module on standard input, or refuses it with a number and a place.
+#![tactic(auto)]
+
 mod order;
 
 use lexer::{MAX_SYMBOLS, SymbolRecord};

@@ -1,6 +1,8 @@
 // Parses each source of a table, one to a line, and then each file that an argument names, and answers it with the
 // number of its records or with its fault. A line that begins with % is passed over.
 // The last lines show what lists of several lengths hold at their ends, before filled with a place of their own.
+#![tactic(auto)]
+
 use lexer::{MAX_SYMBOLS, SymbolRecord};
 use parser::{MAX_RECORDS, parse};
 use std::io::{BufRead, BufReader};

@@ -1,4 +1,6 @@
 //! Reads a script from standard input and answers each line.
+#![tactic(auto)]
+
 use player::play::play;
 use std::io;
 

@@ -1,4 +1,6 @@
 //! The program `port` on a script for a queue that is 0 deep.
+#![tactic(auto)]
+
 use player::play::play;
 use std::io;
 

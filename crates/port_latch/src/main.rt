@@ -1,4 +1,6 @@
 //! The program `port` on a script for a latch.
+#![tactic(auto)]
+
 use player::play::play;
 use std::io;
 

@@ -1,4 +1,6 @@
 //! Ports of sixteen channels: what a port means, the calls on one, why a call is refused, and lent ports.
+#![tactic(auto)]
+
 pub mod lent;
 pub mod port;
 pub mod refusal;

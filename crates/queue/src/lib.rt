@@ -1,4 +1,6 @@
 //! A port that holds a ring of samples on each channel, in memory that it is lent.
+#![tactic(auto)]
+
 ghost use Rattle.std.specs.Prelude.{◌≡◌, ◌≤◌, [], ◌∷◌, length};
 ghost use Rattle.ports.specs.Layers.{blank};
 ghost use Rattle.queue.specs.Lawful.{queued_lawful};

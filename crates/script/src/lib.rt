@@ -1,4 +1,6 @@
 //! Lines of scripts: commands for a port, the settings of a port, and answers.
+#![tactic(auto)]
+
 pub mod answer;
 pub mod command;
 pub mod line;

@@ -1,4 +1,6 @@
 // The meaning of resolved programs; no code but the laws.
+#![tactic(auto)]
+
 ghost use Rattle.semantics.specs.Laws.{MoreFuel, OneOutcome, OneCourse, MoreSamples, EventsStay, ForTerms, WordsKeepTypes};
 ghost use Rattle.semantics.specs.Examples.{ExamplesHold};
 

@@ -1,4 +1,6 @@
 //! A last-in-first-out stack over a lent slice, for any plain record.
+#![tactic(auto)]
+
 pub mod pile;
 mod work;
 

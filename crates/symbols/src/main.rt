@@ -1,4 +1,6 @@
 // Lists the symbols of the module on standard input, or refuses it with a number and a place.
+#![tactic(auto)]
+
 use lexer::{MAX_SYMBOLS, SymbolRecord, next_symbol, scan};
 use std::io;
 use std::io::Read;

@@ -1,4 +1,6 @@
 // Syntax trees as records, the steps of a descent over the symbols, and the descent through constants and expressions.
+#![tactic(auto)]
+
 mod constants;
 mod expressions;
 pub mod step;

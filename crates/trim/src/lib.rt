@@ -1,4 +1,6 @@
 //! A port that takes an offset from what is read.
+#![tactic(auto)]
+
 pub mod offsets;
 
 ghost use Rattle.std.specs.Prelude.{◌≡◌};

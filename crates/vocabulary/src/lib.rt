@@ -1,4 +1,6 @@
 // What the symbols of the language look like: their tags and spellings, the classes of bytes, signs and numbers.
+#![tactic(auto)]
+
 mod characters;
 mod numbers;
 mod signs;

@@ -9,41 +9,41 @@ use Rattle.integer.proofs.Wide.{wide, wide_rest}
 use Rattle.integer.proofs.division.divide.Goals as goal
 
 -- the remainder as it is calculated
-abbrev rest : goal.After-quotient-of-quotient → ℤ
-rest c = wide c.args.x -ℤ to_z w64 (of_z w64 (wide c.quotient-of-quotient.result *ℤ wide c.args.y))
+abbrev rest : goal.After-quotient_of-quotient → ℤ
+rest c = wide c.args.x -ℤ to_z w64 (of_z w64 (wide c.quotient_of-quotient.result *ℤ wide c.args.y))
 
-at_least_one : (c : goal.After-quotient-of-quotient) → pos 1 ≤ℤ c.args.y
+at_least_one : (c : goal.After-quotient_of-quotient) → pos 1 ≤ℤ c.args.y
 at_least_one c = search rules
 
-quotient_is : (c : goal.After-quotient-of-quotient) → c.quotient-of-quotient.result ≡ int_div_euclid c.args.x c.args.y
-quotient_is c = rw (to_z-of_z w32 c.args.x c.ranges.x, to_z-of_z w32 c.args.y c.ranges.y) at c.quotient-of-quotient.ensures
+quotient_is : (c : goal.After-quotient_of-quotient) → c.quotient_of-quotient.result ≡ int_div_euclid c.args.x c.args.y
+quotient_is c = rw (to_z-of_z w32 c.args.x c.ranges.x, to_z-of_z w32 c.args.y c.ranges.y) at c.quotient_of-quotient.ensures
 
-lawful : (c : goal.After-quotient-of-quotient) → Divides c.args.x c.args.y (c.quotient-of-quotient.result, rest c)
+lawful : (c : goal.After-quotient_of-quotient) → Divides c.args.x c.args.y (c.quotient_of-quotient.result, rest c)
 lawful c =
-    let q : SFits w32 c.quotient-of-quotient.result = search rules in
-    let e = wide_rest c.args.x c.args.y c.quotient-of-quotient.result c.ranges.x c.ranges.y q in
+    let q : SFits w32 c.quotient_of-quotient.result = search rules in
+    let e = wide_rest c.args.x c.args.y c.quotient_of-quotient.result c.ranges.x c.ranges.y q in
     rw (e, quotient_is c) (paired_divides c.args.x c.args.y (at_least_one c))
 
-rest_fits : (c : goal.After-quotient-of-quotient) → SFits w32 (rest c)
+rest_fits : (c : goal.After-quotient_of-quotient) → SFits w32 (rest c)
 rest_fits c = let h = (lawful c).1 in let k = (lawful c).2 in let f = c.ranges.y in omega (arith, ints)
 
-pub overflow-sub-remainder : goal.overflow-sub-remainder
-overflow-sub-remainder c = let f = rest_fits c in omega (arith, ints)
+pub overflow_sub-remainder : goal.overflow_sub-remainder
+overflow_sub-remainder c = let f = rest_fits c in omega (arith, ints)
 
-pub overflow-cast-result : goal.overflow-cast-result
-overflow-cast-result c = let f = rest_fits c in omega (arith, ints)
+pub overflow_cast-result : goal.overflow_cast-result
+overflow_cast-result c = let f = rest_fits c in omega (arith, ints)
 
 -- the pair as it is answered
-abbrev pair : goal.After-quotient-of-quotient → ℤ × ℤ
-pair c = (to_z w32 (of_z w32 c.quotient-of-quotient.result), to_z w32 (of_z w32 (to_z w64 (of_z w64 (rest c)))))
+abbrev pair : goal.After-quotient_of-quotient → ℤ × ℤ
+pair c = (to_z w32 (of_z w32 c.quotient_of-quotient.result), to_z w32 (of_z w32 (to_z w64 (of_z w64 (rest c)))))
 
-pair_lawful : (c : goal.After-quotient-of-quotient) → Divides c.args.x c.args.y (pair c)
+pair_lawful : (c : goal.After-quotient_of-quotient) → Divides c.args.x c.args.y (pair c)
 pair_lawful c =
     let f = rest_fits c in
-    let g : SFits w32 c.quotient-of-quotient.result = search rules in
-    let q : (pair c).0 ≡ c.quotient-of-quotient.result = omega (arith, ints) in
+    let g : SFits w32 c.quotient_of-quotient.result = search rules in
+    let q : (pair c).0 ≡ c.quotient_of-quotient.result = omega (arith, ints) in
     let r : (pair c).1 ≡ rest c = omega (arith, ints) in
-    divides_at c.args.x c.args.y (pair c) (c.quotient-of-quotient.result, rest c) q r (lawful c)
+    divides_at c.args.x c.args.y (pair c) (c.quotient_of-quotient.result, rest c) q r (lawful c)
 
 pub returns : goal.returns
 returns c =

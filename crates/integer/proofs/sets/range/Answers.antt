@@ -16,8 +16,8 @@ difference c =
     let p = placed c.args.high c.in-Some-Some.last c.ranges.high c.in-Some-Some.ensures' in
     sum_bits c.in-Some-Some.first c.in-Some-Some.last (omega arith) p.2
 
-pub overflow-sub-result : goal.overflow-sub-result
-overflow-sub-result c = omega (arith, difference c)
+pub overflow_sub-result : goal.overflow_sub-result
+overflow_sub-result c = omega (arith, difference c)
 
 pub returns : goal.returns
 returns c =

@@ -6,15 +6,15 @@ use Rattle.integer.proofs.Powers.{digit_or}
 use Rattle.integer.proofs.Words.{answered, digit_low}
 use Rattle.integer.proofs.sets.union.Goals as goal
 
-pub overflow-cast-result : goal.overflow-cast-result
-overflow-cast-result c = search (rules, or_lt 31)
+pub overflow_cast-result : goal.overflow_cast-result
+overflow_cast-result c = search (rules, or_lt 31)
 
 pub returns : goal.returns
 returns c =
     let a = c.args.a in
     let b = c.args.b in
-    let m = c.low-bits.result in
-    let n = c.low-bits-2.result in
-    let e = answered (λ i. has i a || has i b) (bit_or m n) (or_lt 16 m n c.low-bits.type-inv c.low-bits-2.type-inv)
-    (λ i l. digit_or i m n ∙ ap₂ ◌||◌ (digit_low a m c.ranges.a c.low-bits.ensures i) (digit_low b n c.ranges.b c.low-bits-2.ensures i)) in
+    let m = c.low_bits.result in
+    let n = c.low_bits-2.result in
+    let e = answered (λ i. has i a || has i b) (bit_or m n) (or_lt 16 m n c.low_bits.type_inv c.low_bits-2.type_inv)
+    (λ i l. digit_or i m n ∙ ap₂ ◌||◌ (digit_low a m c.ranges.a c.low_bits.ensures i) (digit_low b n c.ranges.b c.low_bits-2.ensures i)) in
     record { answer = e.0; members = e.1 }

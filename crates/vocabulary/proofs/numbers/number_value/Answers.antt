@@ -9,5 +9,5 @@ nothing : (text : List ℕ) → length text < 1 → ◌≡◌ {A = Result ℤ Fa
 nothing [] h = refl
 nothing (c ∷ cs) h = absurd (omega arith)
 
-pub returns-in-default : goal.returns-in-default
-returns-in-default c = nothing c.args.text.now (omega (arith, ltb-true))
+pub returns-in_default : goal.returns-in_default
+returns-in_default c = nothing c.args.text.now (omega (arith, ltb-true))
