@@ -22,8 +22,13 @@ GOAL = re.compile(r"\b(?:goal|rules|Goals|Rules)\.([^\W\d][\w'-]*)")
 
 LOWER = {c: c + 32 for c in range(ord("A"), ord("Z") + 1)}
 
+# A lemma and a definition that the same file imports would fall together.
+APART = {"symbol-at": "symbol_found"}
+
 
 def respelt(name):
+    if name in APART:
+        return APART[name]
     parts = [p for p in name.replace("getD", "get_or").replace("++", "append").split("-") if p]
     if name[0].isupper():
         return parts[0] + "".join(p[0].upper() + p[1:] for p in parts[1:])

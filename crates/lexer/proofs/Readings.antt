@@ -82,8 +82,8 @@ at_symbol s at f h o e =
     (rw p.2 at i, ap (λ (g : Found). g.place) (sym p.2))
 
 -- and a symbol stands at its place
-symbol_at : (s : List ℕ) (f : Found) → IsSymbol s f → symbol_at s f.place ≡ Ok f
-symbol_at s f i =
+symbol_found : (s : List ℕ) (f : Found) → IsSymbol s f → symbol_at s f.place ≡ Ok f
+symbol_found s f i =
     let xs : List ℕ = drop f.place s in
     ap (placed f.place xs) (longest_front xs f.tag (length f.text) (symbol_longest s f i)) ∙ ap (λ t. Ok (record { tag = f.tag; place = f.place; text = t })) (sym (text_taken s f i))
 
@@ -135,7 +135,7 @@ from_follows s from f h e =
 pub follows_from : (s : List ℕ) (from : ℕ) (f : Found) → Follows s from f → symbol_from s from ≡ Ok f
 follows_from s from f w =
     let b : Between s from f.place = record { order = w.order; within = omega (arith, w.symbol.inside); gap = w.gap; bare = w.symbol.bare; apart = longest_apart _ _ _ (symbol_longest s f w.symbol) } in
-    between_from s from f.place b ∙ symbol_at s f w.symbol
+    between_from s from f.place b ∙ symbol_found s f w.symbol
 
 end_from : (s : List ℕ) (from : ℕ) → from ≤ length s → Gap (stretch s from (length s)) → symbol_from s from ≡ Ok (record { tag = EndOfSource; place = length s; text = [] })
 end_from s from h g =

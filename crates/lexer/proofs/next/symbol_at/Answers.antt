@@ -7,28 +7,28 @@ use Rattle.lexer.proofs.next.symbol_at.Goals as goal
 pub returns-then-at-source : goal.returns-then-at-source
 returns-then-at-source c = record { is = at_end _ _ (omega arith); end = search rules; ends = search rules; within = search rules }
 
-pub returns-then-is-letter : goal.returns-then-is-letter
-returns-then-is-letter c =
+pub returns-then-is_letter : goal.returns-then-is_letter
+returns-then-is_letter c =
     let s = c.args.source.now in
-    let w = at_word s c.args.at c.run-end-end.result (search rules) (search rules) c.run-end-end.ensures.is in
-    let l = stretch_length s c.args.at c.run-end-end.result (omega arith) (omega arith) in
+    let w = at_word s c.args.at c.run_end-end.result (search rules) (search rules) c.run_end-end.ensures.is in
+    let l = stretch_length s c.args.at c.run_end-end.result (omega arith) (omega arith) in
     let tag = c.word.ensures.tag in
     let text = c.word.ensures.text in
-    let is : symbol_at s c.args.at ≡ Ok (seen (record { symbol = c.word.result; place = c.args.at; end = c.run-end-end.result })) = cc in
+    let is : symbol_at s c.args.at ≡ Ok (seen (record { symbol = c.word.result; place = c.args.at; end = c.run_end-end.result })) = cc in
     record { is = is; ends = c.word.ensures.goes ∙ sym (has_text s c.args.at _ (search rules) is); end = l ∙ ap (λ xs. c.args.at + length xs) (sym text); within = search rules }
 
 pub returns-in-Ok : goal.returns-in-Ok
 returns-in-Ok c =
     let s = c.args.source.now in
-    let to = c.run-end-end-then-is-digit.result in
-    let n = at_number s c.args.at to _ (search rules) (search rules) (search rules) c.run-end-end-then-is-digit.ensures.is c.in-Ok.ensures in
+    let to = c.run_end-end-then-is_digit.result in
+    let n = at_number s c.args.at to _ (search rules) (search rules) (search rules) c.run_end-end-then-is_digit.ensures.is c.in-Ok.ensures in
     record { is = n; ends = sym (has_text s c.args.at _ (search rules) n); end = stretch_length s c.args.at to (omega arith) (omega arith); within = search rules }
 
 pub returns-in-Err : goal.returns-in-Err
 returns-in-Err c =
     let s = c.args.source.now in
-    let to = c.run-end-end-then-is-digit.result in
-    record { is = at_number s c.args.at to _ (search rules) (search rules) (search rules) c.run-end-end-then-is-digit.ensures.is c.in-Err.ensures; end = tt; ends = tt; within = tt }
+    let to = c.run_end-end-then-is_digit.result in
+    record { is = at_number s c.args.at to _ (search rules) (search rules) (search rules) c.run_end-end-then-is_digit.ensures.is c.in-Err.ensures; end = tt; ends = tt; within = tt }
 
 pub returns-in-Some : goal.returns-in-Some
 returns-in-Some c =

@@ -22,11 +22,11 @@ filled n before after h e =
 zeroed_alike : (xs ys : List SymbolRecord) (e : Fault) → length xs ≡ length ys → stored xs (Err e) ≡ stored ys (Err e)
 zeroed_alike xs ys e h = rw h refl
 
-pub returns-then-records-lt-MAX-SYMBOLS : goal.returns-then-records-lt-MAX-SYMBOLS
-returns-then-records-lt-MAX-SYMBOLS c = record { answer = search rules; law = lawful _; refusal = lawful_refusal _ }
+pub returns-then-records-lt-MAX_SYMBOLS : goal.returns-then-records-lt-MAX_SYMBOLS
+returns-then-records-lt-MAX_SYMBOLS c = record { answer = search rules; law = lawful _; refusal = lawful_refusal _ }
 
-pub returns-then-source-gt-MAX-BYTES : goal.returns-then-source-gt-MAX-BYTES
-returns-then-source-gt-MAX-BYTES c = record { answer = search rules; law = lawful _; refusal = lawful_refusal _ }
+pub returns-then-source-gt-MAX_BYTES : goal.returns-then-source-gt-MAX_BYTES
+returns-then-source-gt-MAX_BYTES c = record { answer = search rules; law = lawful _; refusal = lawful_refusal _ }
 
 pub returns-in-Ok : goal.returns-in-Ok
 returns-in-Ok c =
