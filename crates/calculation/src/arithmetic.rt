@@ -1,5 +1,5 @@
 // Arithmetic on INTEGERs: each result that is no INTEGER is a trap.
-ghost use Rattle.std.specs.Prelude.{◌≡◌, pos, neg_ℤ, nat_abs, ◌+ℤ◌, ◌-ℤ◌, ◌*ℤ◌};
+ghost use Rattle.std.specs.Prelude.{◌≡◌, pos, neg_ℤ, unsigned_abs, ◌+ℤ◌, ◌-ℤ◌, ◌*ℤ◌};
 ghost use Rattle.instructions.specs.Table.{unary, binary, test};
 ghost use Rattle.instructions.specs.Values.{quotient, remainder, odd};
 ghost use Rattle.integer.specs.Division.{divided};
@@ -12,7 +12,7 @@ use memory::Memory;
 
 /// x + y.
 pub fn add(m: &mut Memory) -> Result<(), Fault>
-    ensures* { λ r. ⌜ binary Trap.Range (λ x y. kept integer (x +ℤ y)) (seen m.old) ≡ record { result = r; state = seen m.new } ⌝ }
+    ensures { binary Trap.Range (λ x y. kept integer (x +ℤ y)) (seen m.old) ≡ record { result = result; state = seen m.new } }
 {
     let (x, y) = pull_two(m)?;
     answer(m, Trap::Range, integer::add(x, y))
@@ -20,7 +20,7 @@ pub fn add(m: &mut Memory) -> Result<(), Fault>
 
 /// x - y.
 pub fn subtract(m: &mut Memory) -> Result<(), Fault>
-    ensures* { λ r. ⌜ binary Trap.Range (λ x y. kept integer (x -ℤ y)) (seen m.old) ≡ record { result = r; state = seen m.new } ⌝ }
+    ensures { binary Trap.Range (λ x y. kept integer (x -ℤ y)) (seen m.old) ≡ record { result = result; state = seen m.new } }
 {
     let (x, y) = pull_two(m)?;
     answer(m, Trap::Range, integer::subtract(x, y))
@@ -28,7 +28,7 @@ pub fn subtract(m: &mut Memory) -> Result<(), Fault>
 
 /// x * y.
 pub fn multiply(m: &mut Memory) -> Result<(), Fault>
-    ensures* { λ r. ⌜ binary Trap.Range (λ x y. kept integer (x *ℤ y)) (seen m.old) ≡ record { result = r; state = seen m.new } ⌝ }
+    ensures { binary Trap.Range (λ x y. kept integer (x *ℤ y)) (seen m.old) ≡ record { result = result; state = seen m.new } }
 {
     let (x, y) = pull_two(m)?;
     answer(m, Trap::Range, integer::multiply(x, y))
@@ -36,7 +36,7 @@ pub fn multiply(m: &mut Memory) -> Result<(), Fault>
 
 /// The quotient of x by y, rounded down.
 pub fn divide(m: &mut Memory) -> Result<(), Fault>
-    ensures* { λ r. ⌜ binary Trap.Divisor (λ x y. quotient (divided x y)) (seen m.old) ≡ record { result = r; state = seen m.new } ⌝ }
+    ensures { binary Trap.Divisor (λ x y. quotient (divided x y)) (seen m.old) ≡ record { result = result; state = seen m.new } }
 {
     let (x, y) = pull_two(m)?;
     match integer::divide(x, y) {
@@ -47,7 +47,7 @@ pub fn divide(m: &mut Memory) -> Result<(), Fault>
 
 /// The remainder of x by y, never negative.
 pub fn modulo(m: &mut Memory) -> Result<(), Fault>
-    ensures* { λ r. ⌜ binary Trap.Divisor (λ x y. remainder (divided x y)) (seen m.old) ≡ record { result = r; state = seen m.new } ⌝ }
+    ensures { binary Trap.Divisor (λ x y. remainder (divided x y)) (seen m.old) ≡ record { result = result; state = seen m.new } }
 {
     let (x, y) = pull_two(m)?;
     match integer::divide(x, y) {
@@ -58,7 +58,7 @@ pub fn modulo(m: &mut Memory) -> Result<(), Fault>
 
 /// -x.
 pub fn negate(m: &mut Memory) -> Result<(), Fault>
-    ensures* { λ r. ⌜ unary Trap.Range (λ x. kept integer (neg_ℤ x)) (seen m.old) ≡ record { result = r; state = seen m.new } ⌝ }
+    ensures { unary Trap.Range (λ x. kept integer (neg_ℤ x)) (seen m.old) ≡ record { result = result; state = seen m.new } }
 {
     let x = m.pull()?;
     answer(m, Trap::Range, integer::negate(x))
@@ -66,7 +66,7 @@ pub fn negate(m: &mut Memory) -> Result<(), Fault>
 
 /// The absolute value of x.
 pub fn absolute(m: &mut Memory) -> Result<(), Fault>
-    ensures* { λ r. ⌜ unary Trap.Range (λ x. kept integer (pos (nat_abs x))) (seen m.old) ≡ record { result = r; state = seen m.new } ⌝ }
+    ensures { unary Trap.Range (λ x. kept integer (pos (unsigned_abs x))) (seen m.old) ≡ record { result = result; state = seen m.new } }
 {
     let x = m.pull()?;
     answer(m, Trap::Range, integer::absolute(x))
@@ -84,7 +84,7 @@ fn is_odd(x: i32) -> bool
 
 /// Whether x is odd.
 pub fn test_odd(m: &mut Memory) -> Result<(), Fault>
-    ensures* { λ r. ⌜ test odd (seen m.old) ≡ record { result = r; state = seen m.new } ⌝ }
+    ensures { test odd (seen m.old) ≡ record { result = result; state = seen m.new } }
 {
     let x = m.pull()?;
     m.push(truth(is_odd(x)))

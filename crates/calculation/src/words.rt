@@ -1,4 +1,4 @@
-ghost use Rattle.std.specs.Prelude.{◌≡◌, ℤ, pos, nat_abs};
+ghost use Rattle.std.specs.Prelude.{◌≡◌, ℤ, pos, unsigned_abs};
 ghost use Rattle.instructions.specs.Moves.{Done};
 ghost use Rattle.instructions.specs.Table.{pull_two, answer, check};
 ghost use Rattle.instructions.specs.Values.{truth, same, natural};
@@ -30,7 +30,7 @@ pub fn natural(z: i64) -> Option<usize>
 
 /// Takes two words: the one left first, and the newest.
 pub fn pull_two(m: &mut Memory) -> Result<(i32, i32), Fault>
-    ensures* { λ r. ⌜ pull_two (seen m.old) ≡ record { result = r; state = seen m.new } ⌝ }
+    ensures { pull_two (seen m.old) ≡ record { result = result; state = seen m.new } }
 {
     let y = m.pull()?;
     let x = m.pull()?;
@@ -39,7 +39,7 @@ pub fn pull_two(m: &mut Memory) -> Result<(i32, i32), Fault>
 
 /// Leaves a value, or traps where there is none.
 pub fn answer(m: &mut Memory, trap: Trap, value: Option<i32>) -> Result<(), Fault>
-    ensures* { λ r. ⌜ answer trap value (seen m.old) ≡ record { result = r; state = seen m.new } ⌝ }
+    ensures { answer trap value (seen m.old) ≡ record { result = result; state = seen m.new } }
 {
     match value {
         Some(x) => m.push(x),

@@ -1,6 +1,6 @@
 // Relations of two words, and NOT.
 ghost use Rattle.std.specs.Prelude.{◌≡◌, not, pos};
-ghost use Rattle.std.specs.Int.Signed.{le_z, lt_z};
+ghost use Rattle.std.specs.Int.Signed.{int_le, int_lt};
 ghost use Rattle.instructions.specs.Table.{relate, test};
 ghost use Rattle.instructions.specs.Values.{same};
 ghost use Rattle.memory.specs.Seen.{seen};
@@ -11,7 +11,7 @@ use memory::Memory;
 
 /// x = y.
 pub fn equal(m: &mut Memory) -> Result<(), Fault>
-    ensures* { λ r. ⌜ relate same (seen m.old) ≡ record { result = r; state = seen m.new } ⌝ }
+    ensures { relate same (seen m.old) ≡ record { result = result; state = seen m.new } }
 {
     let (x, y) = pull_two(m)?;
     m.push(truth(same(x, y)))
@@ -19,7 +19,7 @@ pub fn equal(m: &mut Memory) -> Result<(), Fault>
 
 /// x # y.
 pub fn unequal(m: &mut Memory) -> Result<(), Fault>
-    ensures* { λ r. ⌜ relate (λ x y. not (same x y)) (seen m.old) ≡ record { result = r; state = seen m.new } ⌝ }
+    ensures { relate (λ x y. not (same x y)) (seen m.old) ≡ record { result = result; state = seen m.new } }
 {
     let (x, y) = pull_two(m)?;
     m.push(truth(!same(x, y)))
@@ -27,7 +27,7 @@ pub fn unequal(m: &mut Memory) -> Result<(), Fault>
 
 /// x < y.
 pub fn less(m: &mut Memory) -> Result<(), Fault>
-    ensures* { λ r. ⌜ relate lt_z (seen m.old) ≡ record { result = r; state = seen m.new } ⌝ }
+    ensures { relate int_lt (seen m.old) ≡ record { result = result; state = seen m.new } }
 {
     let (x, y) = pull_two(m)?;
     m.push(truth(x < y))
@@ -35,7 +35,7 @@ pub fn less(m: &mut Memory) -> Result<(), Fault>
 
 /// x <= y.
 pub fn less_equal(m: &mut Memory) -> Result<(), Fault>
-    ensures* { λ r. ⌜ relate le_z (seen m.old) ≡ record { result = r; state = seen m.new } ⌝ }
+    ensures { relate int_le (seen m.old) ≡ record { result = result; state = seen m.new } }
 {
     let (x, y) = pull_two(m)?;
     m.push(truth(x <= y))
@@ -43,7 +43,7 @@ pub fn less_equal(m: &mut Memory) -> Result<(), Fault>
 
 /// x > y.
 pub fn greater(m: &mut Memory) -> Result<(), Fault>
-    ensures* { λ r. ⌜ relate (λ x y. lt_z y x) (seen m.old) ≡ record { result = r; state = seen m.new } ⌝ }
+    ensures { relate (λ x y. int_lt y x) (seen m.old) ≡ record { result = result; state = seen m.new } }
 {
     let (x, y) = pull_two(m)?;
     m.push(truth(y < x))
@@ -51,7 +51,7 @@ pub fn greater(m: &mut Memory) -> Result<(), Fault>
 
 /// x >= y.
 pub fn greater_equal(m: &mut Memory) -> Result<(), Fault>
-    ensures* { λ r. ⌜ relate (λ x y. le_z y x) (seen m.old) ≡ record { result = r; state = seen m.new } ⌝ }
+    ensures { relate (λ x y. int_le y x) (seen m.old) ≡ record { result = result; state = seen m.new } }
 {
     let (x, y) = pull_two(m)?;
     m.push(truth(y <= x))
@@ -59,7 +59,7 @@ pub fn greater_equal(m: &mut Memory) -> Result<(), Fault>
 
 /// NOT x: whether x is 0.
 pub fn negation(m: &mut Memory) -> Result<(), Fault>
-    ensures* { λ r. ⌜ test (λ x. same x (pos 0)) (seen m.old) ≡ record { result = r; state = seen m.new } ⌝ }
+    ensures { test (λ x. same x (pos 0)) (seen m.old) ≡ record { result = result; state = seen m.new } }
 {
     let x = m.pull()?;
     m.push(truth(same(x, 0)))

@@ -1,5 +1,5 @@
 // Sets of elements from 0 to 15, in the low sixteen bits of a word.
-ghost use Rattle.std.specs.Prelude.{◌≡◌, nat_abs};
+ghost use Rattle.std.specs.Prelude.{◌≡◌, unsigned_abs};
 ghost use Rattle.instructions.specs.Table.{binary, combine, check};
 ghost use Rattle.instructions.specs.Values.{truth};
 ghost use Rattle.integer.specs.Ends.{within};
@@ -12,7 +12,7 @@ use memory::Memory;
 
 /// The elements of either set.
 pub fn union(m: &mut Memory) -> Result<(), Fault>
-    ensures* { λ r. ⌜ combine union_of (seen m.old) ≡ record { result = r; state = seen m.new } ⌝ }
+    ensures { combine union_of (seen m.old) ≡ record { result = result; state = seen m.new } }
 {
     let (x, y) = pull_two(m)?;
     m.push(integer::union(x, y))
@@ -20,7 +20,7 @@ pub fn union(m: &mut Memory) -> Result<(), Fault>
 
 /// The elements of the first set that are not in the second.
 pub fn difference(m: &mut Memory) -> Result<(), Fault>
-    ensures* { λ r. ⌜ combine difference_of (seen m.old) ≡ record { result = r; state = seen m.new } ⌝ }
+    ensures { combine difference_of (seen m.old) ≡ record { result = result; state = seen m.new } }
 {
     let (x, y) = pull_two(m)?;
     m.push(integer::difference(x, y))
@@ -28,7 +28,7 @@ pub fn difference(m: &mut Memory) -> Result<(), Fault>
 
 /// The elements of both sets.
 pub fn intersection(m: &mut Memory) -> Result<(), Fault>
-    ensures* { λ r. ⌜ combine intersection_of (seen m.old) ≡ record { result = r; state = seen m.new } ⌝ }
+    ensures { combine intersection_of (seen m.old) ≡ record { result = result; state = seen m.new } }
 {
     let (x, y) = pull_two(m)?;
     m.push(integer::intersection(x, y))
@@ -36,7 +36,7 @@ pub fn intersection(m: &mut Memory) -> Result<(), Fault>
 
 /// Traps unless the newest word can be an element of a set.
 pub fn element(m: &mut Memory) -> Result<(), Fault>
-    ensures* { λ r. ⌜ check Trap.Element (within elements) (seen m.old) ≡ record { result = r; state = seen m.new } ⌝ }
+    ensures { check Trap.Element (within elements) (seen m.old) ≡ record { result = result; state = seen m.new } }
 {
     let x = m.operand(0)?;
     if x < 0 || x > 15 {
@@ -47,7 +47,7 @@ pub fn element(m: &mut Memory) -> Result<(), Fault>
 
 /// Whether a set has an element.
 pub fn contains(m: &mut Memory) -> Result<(), Fault>
-    ensures* { λ r. ⌜ binary Trap.Element (λ x s. if_element x (truth (has (nat_abs x) s))) (seen m.old) ≡ record { result = r; state = seen m.new } ⌝ }
+    ensures { binary Trap.Element (λ x s. if_element x (truth (has (unsigned_abs x) s))) (seen m.old) ≡ record { result = result; state = seen m.new } }
 {
     let (x, set) = pull_two(m)?;
     match integer::contains(set, x) {
@@ -58,7 +58,7 @@ pub fn contains(m: &mut Memory) -> Result<(), Fault>
 
 /// The set with an element.
 pub fn include(m: &mut Memory) -> Result<(), Fault>
-    ensures* { λ r. ⌜ binary Trap.Element (λ x s. if_element x (including s x)) (seen m.old) ≡ record { result = r; state = seen m.new } ⌝ }
+    ensures { binary Trap.Element (λ x s. if_element x (including s x)) (seen m.old) ≡ record { result = result; state = seen m.new } }
 {
     let (x, set) = pull_two(m)?;
     answer(m, Trap::Element, integer::include(set, x))
@@ -66,7 +66,7 @@ pub fn include(m: &mut Memory) -> Result<(), Fault>
 
 /// The set without an element.
 pub fn exclude(m: &mut Memory) -> Result<(), Fault>
-    ensures* { λ r. ⌜ binary Trap.Element (λ x s. if_element x (excluding s x)) (seen m.old) ≡ record { result = r; state = seen m.new } ⌝ }
+    ensures { binary Trap.Element (λ x s. if_element x (excluding s x)) (seen m.old) ≡ record { result = result; state = seen m.new } }
 {
     let (x, set) = pull_two(m)?;
     answer(m, Trap::Element, integer::exclude(set, x))

@@ -1,6 +1,6 @@
 // Jumps, the step of a FOR, activations, and what goes to the port.
 ghost use Rattle.std.specs.Prelude.{◌≡◌, cond, pos};
-ghost use Rattle.std.specs.Int.Signed.{le_z};
+ghost use Rattle.std.specs.Int.Signed.{int_le};
 ghost use Rattle.instructions.specs.Moves.{Done, ok};
 ghost use Rattle.instructions.specs.State.{at, became};
 ghost use Rattle.instructions.specs.Table.{jump_if, jump_unless, advance, check, call, return_value, take, put};
@@ -14,7 +14,7 @@ use memory::Memory;
 
 /// Ends the reading.
 pub fn end(m: &mut Memory) -> Result<(), Fault>
-    ensures* { λ r. ⌜ ok tt (became Status.Ended (seen m.old)) ≡ record { result = r; state = seen m.new } ⌝ }
+    ensures { ok tt (became Status.Ended (seen m.old)) ≡ record { result = result; state = seen m.new } }
 {
     m.set_status(Status::Ended);
     Ok(())
@@ -22,7 +22,7 @@ pub fn end(m: &mut Memory) -> Result<(), Fault>
 
 /// Goes to an instruction.
 pub fn jump(m: &mut Memory, operand: u16) -> Result<(), Fault>
-    ensures* { λ r. ⌜ ok tt (at operand (seen m.old)) ≡ record { result = r; state = seen m.new } ⌝ }
+    ensures { ok tt (at operand (seen m.old)) ≡ record { result = result; state = seen m.new } }
 {
     m.go(operand as usize);
     Ok(())
@@ -30,7 +30,7 @@ pub fn jump(m: &mut Memory, operand: u16) -> Result<(), Fault>
 
 /// Goes to an instruction if the word is not 0.
 pub fn jump_if(m: &mut Memory, operand: u16) -> Result<(), Fault>
-    ensures* { λ r. ⌜ jump_if operand (seen m.old) ≡ record { result = r; state = seen m.new } ⌝ }
+    ensures { jump_if operand (seen m.old) ≡ record { result = result; state = seen m.new } }
 {
     let x = m.pull()?;
     if !same(x, 0) {
@@ -41,7 +41,7 @@ pub fn jump_if(m: &mut Memory, operand: u16) -> Result<(), Fault>
 
 /// Goes to an instruction if the word is 0.
 pub fn jump_unless(m: &mut Memory, operand: u16) -> Result<(), Fault>
-    ensures* { λ r. ⌜ jump_unless operand (seen m.old) ≡ record { result = r; state = seen m.new } ⌝ }
+    ensures { jump_unless operand (seen m.old) ≡ record { result = result; state = seen m.new } }
 {
     let x = m.pull()?;
     if same(x, 0) {
@@ -75,7 +75,7 @@ fn following(term: i32, limit: i32, step: i32) -> i32
 
 /// The next term of a FOR, and whether there is one.
 pub fn advance(m: &mut Memory) -> Result<(), Fault>
-    ensures* { λ r. ⌜ advance (seen m.old) ≡ record { result = r; state = seen m.new } ⌝ }
+    ensures { advance (seen m.old) ≡ record { result = result; state = seen m.new } }
 {
     let step = m.pull()?;
     let (term, limit) = pull_two(m)?;
@@ -92,7 +92,7 @@ fn is_channel(x: i32) -> bool
 
 /// Traps unless the newest word is a channel.
 pub fn channel(m: &mut Memory) -> Result<(), Fault>
-    ensures* { λ r. ⌜ check Trap.Channel (within channel_numbers) (seen m.old) ≡ record { result = r; state = seen m.new } ⌝ }
+    ensures { check Trap.Channel (within channel_numbers) (seen m.old) ≡ record { result = result; state = seen m.new } }
 {
     let x = m.operand(0)?;
     if is_channel(x) {
@@ -104,7 +104,7 @@ pub fn channel(m: &mut Memory) -> Result<(), Fault>
 
 /// The channel that a Take names.
 pub fn take(m: &Memory) -> Result<u8, Fault>
-    ensures* { λ r. ⌜ take (seen m.now) ≡ record { result = r; state = seen m.now } ⌝ }
+    ensures { take (seen m.now) ≡ record { result = result; state = seen m.now } }
 {
     let x = m.operand(0)?;
     if is_channel(x) {
@@ -116,7 +116,7 @@ pub fn take(m: &Memory) -> Result<u8, Fault>
 
 /// The channel and the value of a Put.
 pub fn put(m: &mut Memory) -> Result<(u8, i16), Fault>
-    ensures* { λ r. ⌜ put (seen m.old) ≡ record { result = r; state = seen m.new } ⌝ }
+    ensures { put (seen m.old) ≡ record { result = result; state = seen m.new } }
 {
     let (x, y) = pull_two(m)?;
     if !is_channel(x) {
@@ -130,14 +130,14 @@ pub fn put(m: &mut Memory) -> Result<(u8, i16), Fault>
 
 /// Opens an activation.
 pub fn call(m: &mut Memory, operand: u16) -> Result<(), Fault>
-    ensures* { λ r. ⌜ call operand (seen m.old) ≡ record { result = r; state = seen m.new } ⌝ }
+    ensures { call operand (seen m.old) ≡ record { result = result; state = seen m.new } }
 {
     m.open_activation((operand / 4096) as usize, (operand % 4096) as usize)
 }
 
 /// Closes an activation, with a result.
 pub fn return_value(m: &mut Memory) -> Result<(), Fault>
-    ensures* { λ r. ⌜ return_value (seen m.old) ≡ record { result = r; state = seen m.new } ⌝ }
+    ensures { return_value (seen m.old) ≡ record { result = result; state = seen m.new } }
 {
     let x = m.pull()?;
     m.close_activation()?;

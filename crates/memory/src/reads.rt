@@ -26,7 +26,7 @@ impl Memory {
 
     /// The operand that is `n` below the newest.
     pub fn operand(&self, n: usize) -> Result<i32, Fault>
-        ensures* { λ r. ⌜ operand n (seen self.now) ≡ record { result = r; state = seen self.now } ⌝ }
+        ensures { operand n (seen self.now) ≡ record { result = result; state = seen self.now } }
     {
         if n >= self.operands {
             return Err(Fault::Broken);
@@ -36,7 +36,7 @@ impl Memory {
 
     /// A variable of the newest activation, or `fault` where there is none.
     pub fn variable(&self, fault: Fault, i: usize) -> Result<i32, Fault>
-        ensures* { λ r. ⌜ variable fault i (seen self.now) ≡ record { result = r; state = seen self.now } ⌝ }
+        ensures { variable fault i (seen self.now) ≡ record { result = result; state = seen self.now } }
     {
         if i >= self.variables {
             return Err(fault);
@@ -46,7 +46,7 @@ impl Memory {
 
     /// A global word, or `fault` where there is none.
     pub fn global(&self, fault: Fault, i: usize) -> Result<i32, Fault>
-        ensures* { λ r. ⌜ global fault i (seen self.now) ≡ record { result = r; state = seen self.now } ⌝ }
+        ensures { global fault i (seen self.now) ≡ record { result = result; state = seen self.now } }
     {
         if i >= GLOBALS {
             return Err(fault);

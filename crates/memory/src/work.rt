@@ -51,7 +51,7 @@ impl Memory {
 
     /// Takes the newest operand.
     pub fn pull(&mut self) -> Result<i32, Fault>
-        ensures* { λ r. ⌜ pull (seen self.old) ≡ record { result = r; state = seen self.new } ⌝ }
+        ensures { pull (seen self.old) ≡ record { result = result; state = seen self.new } }
     {
         if self.operands == 0 {
             return Err(Fault::Broken);
@@ -62,7 +62,7 @@ impl Memory {
 
     /// Leaves an operand.
     pub fn push(&mut self, x: i32) -> Result<(), Fault>
-        ensures* { λ r. ⌜ push x (seen self.old) ≡ record { result = r; state = seen self.new } ⌝ }
+        ensures { push x (seen self.old) ≡ record { result = result; state = seen self.new } }
     {
         if self.variables + self.operands >= ROOM {
             return Err(Fault::Broken);
@@ -83,7 +83,7 @@ impl Memory {
 
     /// Stores a variable of the newest activation, or answers `fault` where there is none.
     pub fn store_variable(&mut self, fault: Fault, i: usize, x: i32) -> Result<(), Fault>
-        ensures* { λ r. ⌜ store_variable fault i x (seen self.old) ≡ record { result = r; state = seen self.new } ⌝ }
+        ensures { store_variable fault i x (seen self.old) ≡ record { result = result; state = seen self.new } }
     {
         if i >= self.variables {
             return Err(fault);
@@ -94,7 +94,7 @@ impl Memory {
 
     /// Stores a global word, or answers `fault` where there is none.
     pub fn store_global(&mut self, fault: Fault, i: usize, x: i32) -> Result<(), Fault>
-        ensures* { λ r. ⌜ store_global fault i x (seen self.old) ≡ record { result = r; state = seen self.new } ⌝ }
+        ensures { store_global fault i x (seen self.old) ≡ record { result = result; state = seen self.new } }
     {
         if i >= GLOBALS {
             return Err(fault);
@@ -105,7 +105,7 @@ impl Memory {
 
     /// Opens an activation whose first variables are the newest operands; it begins at `target`.
     pub fn open_activation(&mut self, arguments: usize, target: usize) -> Result<(), Fault>
-        ensures* { λ r. ⌜ open_activation arguments target (seen self.old) ≡ record { result = r; state = seen self.new } ⌝ }
+        ensures { open_activation arguments target (seen self.old) ≡ record { result = result; state = seen self.new } }
     {
         if arguments > self.operands {
             return Err(Fault::Broken);
@@ -132,7 +132,7 @@ impl Memory {
 
     /// Closes the newest activation.
     pub fn close_activation(&mut self) -> Result<(), Fault>
-        ensures* { λ r. ⌜ close_activation (seen self.old) ≡ record { result = r; state = seen self.new } ⌝ }
+        ensures { close_activation (seen self.old) ≡ record { result = result; state = seen self.new } }
     {
         let mut open = Stack::over(&mut self.callers, self.depth);
         match open.pop() {
@@ -158,7 +158,7 @@ impl Memory {
 
     /// Makes variables of all words of the newest activation, and `n` more that are 0.
     pub fn make_variables(&mut self, n: u16) -> Result<(), Fault>
-        ensures* { λ r. ⌜ make_variables n (seen self.old) ≡ record { result = r; state = seen self.new } ⌝ }
+        ensures { make_variables n (seen self.old) ≡ record { result = result; state = seen self.new } }
     {
         if self.variables + self.operands + n as usize > ROOM {
             return Err(Fault::Broken);

@@ -22,21 +22,21 @@ fn signed(operand: u16) -> i32
 
 /// Leaves an INTEGER.
 pub fn integer_constant(m: &mut Memory, operand: u16) -> Result<(), Fault>
-    ensures* { λ r. ⌜ push (signed operand) (seen m.old) ≡ record { result = r; state = seen m.new } ⌝ }
+    ensures { push (signed operand) (seen m.old) ≡ record { result = result; state = seen m.new } }
 {
     m.push(signed(operand))
 }
 
 /// Leaves a set.
 pub fn set_constant(m: &mut Memory, operand: u16) -> Result<(), Fault>
-    ensures* { λ r. ⌜ push (pos operand) (seen m.old) ≡ record { result = r; state = seen m.new } ⌝ }
+    ensures { push (pos operand) (seen m.old) ≡ record { result = result; state = seen m.new } }
 {
     m.push(operand as i32)
 }
 
 /// Leaves a global word.
 pub fn load_global(m: &mut Memory, operand: u16) -> Result<(), Fault>
-    ensures* { λ r. ⌜ load_global operand (seen m.old) ≡ record { result = r; state = seen m.new } ⌝ }
+    ensures { load_global operand (seen m.old) ≡ record { result = result; state = seen m.new } }
 {
     let x = m.global(Fault::Broken, operand as usize)?;
     m.push(x)
@@ -44,7 +44,7 @@ pub fn load_global(m: &mut Memory, operand: u16) -> Result<(), Fault>
 
 /// Stores a global word.
 pub fn store_global(m: &mut Memory, operand: u16) -> Result<(), Fault>
-    ensures* { λ r. ⌜ keep_global operand (seen m.old) ≡ record { result = r; state = seen m.new } ⌝ }
+    ensures { keep_global operand (seen m.old) ≡ record { result = result; state = seen m.new } }
 {
     let x = m.pull()?;
     m.store_global(Fault::Broken, operand as usize, x)
@@ -52,7 +52,7 @@ pub fn store_global(m: &mut Memory, operand: u16) -> Result<(), Fault>
 
 /// Leaves a variable.
 pub fn load_local(m: &mut Memory, operand: u16) -> Result<(), Fault>
-    ensures* { λ r. ⌜ load_local operand (seen m.old) ≡ record { result = r; state = seen m.new } ⌝ }
+    ensures { load_local operand (seen m.old) ≡ record { result = result; state = seen m.new } }
 {
     let x = m.variable(Fault::Broken, operand as usize)?;
     m.push(x)
@@ -60,7 +60,7 @@ pub fn load_local(m: &mut Memory, operand: u16) -> Result<(), Fault>
 
 /// Stores a variable.
 pub fn store_local(m: &mut Memory, operand: u16) -> Result<(), Fault>
-    ensures* { λ r. ⌜ keep_local operand (seen m.old) ≡ record { result = r; state = seen m.new } ⌝ }
+    ensures { keep_local operand (seen m.old) ≡ record { result = result; state = seen m.new } }
 {
     let x = m.pull()?;
     m.store_variable(Fault::Broken, operand as usize, x)
@@ -68,7 +68,7 @@ pub fn store_local(m: &mut Memory, operand: u16) -> Result<(), Fault>
 
 /// Checks an index against its lower bound and the number of elements, and leaves the one less the other.
 pub fn index(m: &mut Memory, operand: u16) -> Result<(), Fault>
-    ensures* { λ r. ⌜ index operand (seen m.old) ≡ record { result = r; state = seen m.new } ⌝ }
+    ensures { index operand (seen m.old) ≡ record { result = result; state = seen m.new } }
 {
     let (x, low) = pull_two(m)?;
     match natural(x as i64 - low as i64) {
@@ -83,7 +83,7 @@ pub fn index(m: &mut Memory, operand: u16) -> Result<(), Fault>
 
 /// Leaves an element of the global words.
 pub fn load_global_element(m: &mut Memory, operand: u16) -> Result<(), Fault>
-    ensures* { λ r. ⌜ load_global_element operand (seen m.old) ≡ record { result = r; state = seen m.new } ⌝ }
+    ensures { load_global_element operand (seen m.old) ≡ record { result = result; state = seen m.new } }
 {
     let k = m.pull()?;
     match natural(operand as i64 + k as i64) {
@@ -97,7 +97,7 @@ pub fn load_global_element(m: &mut Memory, operand: u16) -> Result<(), Fault>
 
 /// Stores an element of the global words.
 pub fn store_global_element(m: &mut Memory, operand: u16) -> Result<(), Fault>
-    ensures* { λ r. ⌜ keep_global_element operand (seen m.old) ≡ record { result = r; state = seen m.new } ⌝ }
+    ensures { keep_global_element operand (seen m.old) ≡ record { result = result; state = seen m.new } }
 {
     let (k, x) = pull_two(m)?;
     match natural(operand as i64 + k as i64) {
@@ -108,7 +108,7 @@ pub fn store_global_element(m: &mut Memory, operand: u16) -> Result<(), Fault>
 
 /// Leaves an element of the variables.
 pub fn load_local_element(m: &mut Memory, operand: u16) -> Result<(), Fault>
-    ensures* { λ r. ⌜ load_local_element operand (seen m.old) ≡ record { result = r; state = seen m.new } ⌝ }
+    ensures { load_local_element operand (seen m.old) ≡ record { result = result; state = seen m.new } }
 {
     let k = m.pull()?;
     match natural(operand as i64 + k as i64) {
@@ -122,7 +122,7 @@ pub fn load_local_element(m: &mut Memory, operand: u16) -> Result<(), Fault>
 
 /// Stores an element of the variables.
 pub fn store_local_element(m: &mut Memory, operand: u16) -> Result<(), Fault>
-    ensures* { λ r. ⌜ keep_local_element operand (seen m.old) ≡ record { result = r; state = seen m.new } ⌝ }
+    ensures { keep_local_element operand (seen m.old) ≡ record { result = result; state = seen m.new } }
 {
     let (k, x) = pull_two(m)?;
     match natural(operand as i64 + k as i64) {
@@ -133,7 +133,7 @@ pub fn store_local_element(m: &mut Memory, operand: u16) -> Result<(), Fault>
 
 /// Leaves a copy of a word further down.
 pub fn copy(m: &mut Memory, operand: u16) -> Result<(), Fault>
-    ensures* { λ r. ⌜ copy operand (seen m.old) ≡ record { result = r; state = seen m.new } ⌝ }
+    ensures { copy operand (seen m.old) ≡ record { result = result; state = seen m.new } }
 {
     let x = m.operand(operand as usize)?;
     m.push(x)
@@ -141,7 +141,7 @@ pub fn copy(m: &mut Memory, operand: u16) -> Result<(), Fault>
 
 /// Exchanges the two newest words.
 pub fn swap(m: &mut Memory) -> Result<(), Fault>
-    ensures* { λ r. ⌜ swap (seen m.old) ≡ record { result = r; state = seen m.new } ⌝ }
+    ensures { swap (seen m.old) ≡ record { result = result; state = seen m.new } }
 {
     let (x, y) = pull_two(m)?;
     m.push(y)?;

@@ -21,7 +21,7 @@ fn name(
     start: Result<Cursor, Stop>,
     tree: &mut [TreeRecord],
 ) -> Result<Cursor, Stop>
-    ensures* { λ r. ⌜ ((d e : ℕ) → Goes source.now symbols.now d e n (λ v. Lays 0 (name source.now symbols.now v)) start tree.old r tree.new) ⌝ }
+    ensures { (d e : ℕ) → Goes source.now symbols.now d e n (λ v. Lays 0 (name source.now symbols.now v)) start tree.old result tree.new }
 {
     let place = next_place(symbols, start);
     let length = word_length(source, place as usize);
@@ -39,7 +39,7 @@ fn more_names(
     before: Result<Cursor, Stop>,
     tree: &mut [TreeRecord],
 ) -> Result<Cursor, Stop>
-    ensures* { λ r. ⌜ ((d e : ℕ) → Goes source.now symbols.now d e (rep comma_name) (λ v. Extends 0 (λ a. list (λ x. name source.now symbols.now x.1) a v)) before tree.old r tree.new) ⌝ }
+    ensures { (d e : ℕ) → Goes source.now symbols.now d e (rep comma_name) (λ v. Extends 0 (λ a. list (λ x. name source.now symbols.now x.1) a v)) before tree.old result tree.new }
 {
     match next(symbols, before) {
         Tag::Comma => {
@@ -58,7 +58,7 @@ fn pars(
     start: Result<Cursor, Stop>,
     tree: &mut [TreeRecord],
 ) -> Result<Cursor, Stop>
-    ensures* { λ r. ⌜ ((d e : ℕ) → Parses source.now symbols.now d e 0 Pars start tree.old r tree.new) ⌝ }
+    ensures { (d e : ℕ) → Parses source.now symbols.now d e 0 Pars start tree.old result tree.new }
 {
     let first = name(source, symbols, start, tree);
     let all = more_names(source, symbols, first, tree);
@@ -78,7 +78,7 @@ fn more_pars(
     before: Result<Cursor, Stop>,
     tree: &mut [TreeRecord],
 ) -> Result<Cursor, Stop>
-    ensures* { λ r. ⌜ ((d e : ℕ) → Goes source.now symbols.now d e (rep semicolon_pars) (λ v. Extends 0 (λ a. list (λ x. x.1) a v)) before tree.old r tree.new) ⌝ }
+    ensures { (d e : ℕ) → Goes source.now symbols.now d e (rep semicolon_pars) (λ v. Extends 0 (λ a. list (λ x. x.1) a v)) before tree.old result tree.new }
 {
     match next(symbols, before) {
         Tag::Semicolon => {
@@ -97,7 +97,7 @@ fn parameters(
     before: Result<Cursor, Stop>,
     tree: &mut [TreeRecord],
 ) -> Result<Cursor, Stop>
-    ensures* { λ r. ⌜ ((d e : ℕ) → Goes source.now symbols.now d e (opt (seq (ref Pars) (rep semicolon_pars))) (λ v. Extends 1 (λ a. items source.now symbols.now a v)) before tree.old r tree.new) ⌝ }
+    ensures { (d e : ℕ) → Goes source.now symbols.now d e (opt (seq (ref Pars) (rep semicolon_pars))) (λ v. Extends 1 (λ a. items source.now symbols.now a v)) before tree.old result tree.new }
 {
     match next(symbols, before) {
         Tag::Identifier => {
@@ -116,7 +116,7 @@ fn result_type(
     before: Result<Cursor, Stop>,
     tree: &mut [TreeRecord],
 ) -> Result<Cursor, Stop>
-    ensures* { λ r. ⌜ ((d e : ℕ) → Goes source.now symbols.now d e result_part (λ v. Lays 1 (result source.now symbols.now v)) before tree.old r tree.new) ⌝ }
+    ensures { (d e : ℕ) → Goes source.now symbols.now d e result_part (λ v. Lays 1 (result source.now symbols.now v)) before tree.old result tree.new }
 {
     match next(symbols, before) {
         Tag::Colon => name(source, symbols, advance(symbols, before), tree),
@@ -131,7 +131,7 @@ fn heading(
     start: Result<Cursor, Stop>,
     tree: &mut [TreeRecord],
 ) -> Result<Cursor, Stop>
-    ensures* { λ r. ⌜ ((d e : ℕ) → Parses source.now symbols.now d e 3 Heading start tree.old r tree.new) ⌝ }
+    ensures { (d e : ℕ) → Parses source.now symbols.now d e 3 Heading start tree.old result tree.new }
 {
     match next(symbols, start) {
         Tag::OpenRound => {
@@ -156,7 +156,7 @@ fn statements(
     start: Result<Cursor, Stop>,
     tree: &mut [TreeRecord],
 ) -> Result<Cursor, Stop>
-    ensures* { λ r. ⌜ Goes source.now symbols.now limit limit begin_part (λ v. Lays 1 (behind source.now symbols.now v)) start tree.old r tree.new ⌝ }
+    ensures { Goes source.now symbols.now limit limit begin_part (λ v. Lays 1 (behind source.now symbols.now v)) start tree.old result tree.new }
 {
     match next(symbols, start) {
         Tag::Begin => stats(source, symbols, advance(symbols, start), LIMIT, tree),
@@ -171,7 +171,7 @@ fn body(
     start: Result<Cursor, Stop>,
     tree: &mut [TreeRecord],
 ) -> Result<Cursor, Stop>
-    ensures* { λ r. ⌜ Parses source.now symbols.now limit limit 0 Body start tree.old r tree.new ⌝ }
+    ensures { Parses source.now symbols.now limit limit 0 Body start tree.old result tree.new }
 {
     let all = statements(source, symbols, start, tree);
     let place = next_place(symbols, all);
@@ -190,7 +190,7 @@ fn constant(
     start: Result<Cursor, Stop>,
     tree: &mut [TreeRecord],
 ) -> Result<Cursor, Stop>
-    ensures* { λ r. ⌜ ((d e : ℕ) → Parses source.now symbols.now d e 0 Const start tree.old r tree.new) ⌝ }
+    ensures { (d e : ℕ) → Parses source.now symbols.now d e 0 Const start tree.old result tree.new }
 {
     match next(symbols, start) {
         Tag::Minus | Tag::Number | Tag::Identifier => elem(source, symbols, start, tree),
@@ -205,7 +205,7 @@ fn array(
     start: Result<Cursor, Stop>,
     tree: &mut [TreeRecord],
 ) -> Result<Cursor, Stop>
-    ensures* { λ r. ⌜ ((d e : ℕ) → Goes source.now symbols.now d e array_type (λ v. Lays 0 (array_of source.now symbols.now v)) start tree.old r tree.new) ⌝ }
+    ensures { (d e : ℕ) → Goes source.now symbols.now d e array_type (λ v. Lays 0 (array_of source.now symbols.now v)) start tree.old result tree.new }
 {
     let place = next_place(symbols, start);
     let begun = expect(symbols, start, Tag::Array);
@@ -250,7 +250,7 @@ fn type_of(
     start: Result<Cursor, Stop>,
     tree: &mut [TreeRecord],
 ) -> Result<Cursor, Stop>
-    ensures* { λ r. ⌜ ((d e : ℕ) → Parses source.now symbols.now d e 0 «Type» start tree.old r tree.new) ⌝ }
+    ensures { (d e : ℕ) → Parses source.now symbols.now d e 0 «Type» start tree.old result tree.new }
 {
     match next(symbols, start) {
         Tag::Identifier => name(source, symbols, start, tree),
@@ -265,7 +265,7 @@ fn more_constants(
     before: Result<Cursor, Stop>,
     tree: &mut [TreeRecord],
 ) -> Result<Cursor, Stop>
-    ensures* { λ r. ⌜ ((d e : ℕ) → Goes source.now symbols.now d e (rep constant_item) (λ v. Extends 0 (λ a. list (constant_of source.now symbols.now) a v)) before tree.old r tree.new) ⌝ }
+    ensures { (d e : ℕ) → Goes source.now symbols.now d e (rep constant_item) (λ v. Extends 0 (λ a. list (constant_of source.now symbols.now) a v)) before tree.old result tree.new }
 {
     match next(symbols, before) {
         Tag::Identifier => {
@@ -300,7 +300,7 @@ fn more_variables(
     before: Result<Cursor, Stop>,
     tree: &mut [TreeRecord],
 ) -> Result<Cursor, Stop>
-    ensures* { λ r. ⌜ ((d e : ℕ) → Goes source.now symbols.now d e (rep variable_item) (λ v. Extends 0 (λ a. list (variable_of source.now symbols.now) a v)) before tree.old r tree.new) ⌝ }
+    ensures { (d e : ℕ) → Goes source.now symbols.now d e (rep variable_item) (λ v. Extends 0 (λ a. list (variable_of source.now symbols.now) a v)) before tree.old result tree.new }
 {
     match next(symbols, before) {
         Tag::Identifier => {
@@ -324,7 +324,7 @@ fn decl(
     before: Result<Cursor, Stop>,
     tree: &mut [TreeRecord],
 ) -> Result<Cursor, Stop>
-    ensures* { λ r. ⌜ ((d e : ℕ) → Goes source.now symbols.now d e (ref Decl) (λ v. Extends 0 (λ a. linked a v)) before tree.old r tree.new) ⌝ }
+    ensures { (d e : ℕ) → Goes source.now symbols.now d e (ref Decl) (λ v. Extends 0 (λ a. linked a v)) before tree.old result tree.new }
 {
     let place = next_place(symbols, before);
     match next(symbols, before) {
@@ -356,7 +356,7 @@ fn more_decls(
     before: Result<Cursor, Stop>,
     tree: &mut [TreeRecord],
 ) -> Result<Cursor, Stop>
-    ensures* { λ r. ⌜ ((d e : ℕ) → Goes source.now symbols.now d e (rep (ref Decl)) (λ v. Extends 0 (λ a. list (λ x. x) a v)) before tree.old r tree.new) ⌝ }
+    ensures { (d e : ℕ) → Goes source.now symbols.now d e (rep (ref Decl)) (λ v. Extends 0 (λ a. list (λ x. x) a v)) before tree.old result tree.new }
 {
     match next(symbols, before) {
         Tag::Const | Tag::Var => {
@@ -374,7 +374,7 @@ fn proc(
     before: Result<Cursor, Stop>,
     tree: &mut [TreeRecord],
 ) -> Result<Cursor, Stop>
-    ensures* { λ r. ⌜ Goes source.now symbols.now limit limit (ref Proc) (λ v. Extends 0 (λ a. linked a v)) before tree.old r tree.new ⌝ }
+    ensures { Goes source.now symbols.now limit limit (ref Proc) (λ v. Extends 0 (λ a. linked a v)) before tree.old result tree.new }
 {
     let begun = expect(symbols, before, Tag::Procedure);
     let place = next_place(symbols, begun);
@@ -414,7 +414,7 @@ fn closing(
     before: Result<Cursor, Stop>,
     tree: &mut [TreeRecord],
 ) -> Result<Cursor, Stop>
-    ensures* { λ r. ⌜ ((d e : ℕ) → Goes source.now symbols.now d e n (λ v. Extends 0 (λ a. closes source.now symbols.now v a)) before tree.old r tree.new) ⌝ }
+    ensures { (d e : ℕ) → Goes source.now symbols.now d e n (λ v. Extends 0 (λ a. closes source.now symbols.now v a)) before tree.old result tree.new }
 {
     let place = next_place(symbols, before);
     let length = word_length(source, place as usize);
@@ -439,7 +439,7 @@ fn declarations(
     before: Result<Cursor, Stop>,
     tree: &mut [TreeRecord],
 ) -> Result<Cursor, Stop>
-    ensures* { λ r. ⌜ Goes source.now symbols.now limit limit (rep (alt (ref Decl) (ref Proc))) (λ v. Extends 0 (λ a. list (either source.now symbols.now) a v)) before tree.old r tree.new ⌝ }
+    ensures { Goes source.now symbols.now limit limit (rep (alt (ref Decl) (ref Proc))) (λ v. Extends 0 (λ a. list (either source.now symbols.now) a v)) before tree.old result tree.new }
 {
     match next(symbols, before) {
         Tag::Const | Tag::Var => {
@@ -461,7 +461,7 @@ pub(crate) fn module(
     start: Result<Cursor, Stop>,
     tree: &mut [TreeRecord],
 ) -> Result<Cursor, Stop>
-    ensures* { λ r. ⌜ Parses source.now symbols.now limit limit 0 Module start tree.old r tree.new ⌝ }
+    ensures { Parses source.now symbols.now limit limit 0 Module start tree.old result tree.new }
 {
     let begun = expect(symbols, start, Tag::Module);
     let place = next_place(symbols, begun);

@@ -12,7 +12,7 @@ use movement::moves;
 
 /// Carries out an operation that calls nothing of the port.
 pub fn obey(m: &mut Memory, operation: Operation, operand: u16) -> Result<(), Fault>
-    ensures* { λ r. ⌜ obeyed operation operand (seen m.old) ≡ record { result = r; state = seen m.new } ⌝ }
+    ensures { obeyed operation operand (seen m.old) ≡ record { result = result; state = seen m.new } }
 {
     match operation {
         Operation::End => flow::end(m),
