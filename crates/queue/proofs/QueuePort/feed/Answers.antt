@@ -14,9 +14,9 @@ returns c =
     let hl : length rings ≡ 16 = search rules in
     let v = c.args.v in
     let d = share (length xs) in
-    let ed : c.share-of-depth.result ≡ share (length xs) = c.share-of-depth.ensures in
+    let ed : c.share_of-depth.result ≡ share (length xs) = c.share_of-depth.ensures in
     let room : r.count < d = omega arith in
-    let ep : c.place-of-free.result ≡ place d (head_in d r.head) r.count k = cc in
+    let ep : c.place_of-free.result ≡ place d (head_in d r.head) r.count k = cc in
     record {
       answer = queued_feed xs rings k hc room;
       after =

@@ -22,7 +22,7 @@ returns-in-Some g c =
     let es = stored_same o fo in
     let is : c.lessened.result ≡ less (stored o) z = cc in
     record {
-      answer = ap (λ x. Ok (Some x)) (er ∙ is) ∙ ap (lowered (stored o)) (sym (ap Ok c.in-Some.is) ∙ c.in-ok-got.ensures.answer) ∙ trimmed_take os m k;
+      answer = ap (λ x. Ok (Some x)) (er ∙ is) ∙ ap (lowered (stored o)) (sym (ap Ok c.in-Some.is) ∙ c.in_ok-got.ensures.answer) ∙ trimmed_take os m k;
       after = ap (trimmed os) c.take.ensures.after ∙ trimmed_took os m k;
       lent = c.take.ensures.lent;
     }
@@ -33,7 +33,7 @@ returns-in-None g c =
     let m = g.P.Port.meaning c.args.self.now.lower in
     let k = c.args.c in
     record {
-      answer = ap (lowered (stored (get_or os k (pos 0)))) (sym (ap Ok c.in-None.is) ∙ c.in-ok-got.ensures.answer) ∙ trimmed_take os m k;
+      answer = ap (lowered (stored (get_or os k (pos 0)))) (sym (ap Ok c.in-None.is) ∙ c.in_ok-got.ensures.answer) ∙ trimmed_take os m k;
       after = ap (trimmed os) c.take.ensures.after ∙ trimmed_took os m k;
       lent = c.take.ensures.lent;
     }

@@ -13,8 +13,8 @@ rising ls hs c a b p q r rest k =
       | inr ne ↦ simp (get_or-set_other ls c k a (pos 0) ne, get_or-set_other hs c k b (pos 0) ne) (rest k)
     ]
 
-pub invariant-of-self : goal.invariant-of-self
-invariant-of-self c =
+pub invariant_of-self : goal.invariant_of-self
+invariant_of-self c =
     let b = c.args.self.now in
     let k = c.args.c in
     let low = to_z width (of_z width c.args.low) in
