@@ -21,8 +21,8 @@ popping c =
     let long : c.args.self.now.depth ≤ length c.args.self.now.callers = search rules in
     popped_is c.args.self.now.callers c.over-open.result.slots.now c.args.self.now.depth c.over-open.result.len c.pop.new.self.len c.in-Some.caller long c.over-open.ensures.slots.0 c.in-Some.ensures.held.len_was c.in-Some.ensures.held.item_is c.over-open.ensures.slots.1
 
-pub invariant-of-self-in-Some : goal.invariant-of-self-in-Some
-invariant-of-self-in-Some c =
+pub invariant_of-self-in-Some : goal.invariant_of-self-in-Some
+invariant_of-self-in-Some c =
     let m = c.args.self.now in
     let a = c.in-Some.caller in
     let p = popping c in

@@ -21,8 +21,8 @@ returns-in-Err c =
     let all : length m.callers ≡ 32 = search rules in
     open_deep m.globals m.words m.callers m.depth m.base m.variables m.operands m.pc m.status _ c.args.arguments c.args.target (c.in-Err.ensures.held.1.slots_are ∙ c.over-open.ensures.slots.1) c.if-arguments-self.false (omega arith)
 
-pub invariant-of-self-2 : goal.invariant-of-self-2
-invariant-of-self-2 c =
+pub invariant_of-self-2 : goal.invariant_of-self-2
+invariant_of-self-2 c =
     let m = c.args.self.now in
     let kept = m.operands - c.args.arguments in
     let a = suspended m.globals m.words m.callers m.depth m.base m.variables m.operands m.pc m.status c.args.arguments in
