@@ -1,6 +1,5 @@
 // Relations of two words, and NOT.
-ghost use Rattle.std.specs.Prelude.{◌≡◌, not, pos};
-ghost use Rattle.std.specs.Int.Signed.{int_le, int_lt};
+ghost use Rattle.std.specs.Prelude.{◌≡◌, not, pos, int_le, int_lt};
 ghost use Rattle.instructions.specs.Table.{relate, test};
 ghost use Rattle.instructions.specs.Values.{same};
 ghost use Rattle.memory.specs.Seen.{seen};

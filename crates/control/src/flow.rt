@@ -1,6 +1,5 @@
 // Jumps, the step of a FOR, activations, and what goes to the port.
-ghost use Rattle.std.specs.Prelude.{◌≡◌, cond, pos};
-ghost use Rattle.std.specs.Int.Signed.{int_le};
+ghost use Rattle.std.specs.Prelude.{◌≡◌, cond, pos, int_le};
 ghost use Rattle.instructions.specs.Moves.{Done, ok};
 ghost use Rattle.instructions.specs.State.{at, became};
 ghost use Rattle.instructions.specs.Table.{jump_if, jump_unless, advance, check, call, return_value, take, put};

@@ -29,7 +29,7 @@ invariant_of-self-in-Some c =
     let deep : m.depth ≤ 32 = m.deep in
     let n = nested_last m.callers m.depth m.base a p.0 p.1 (nested_fact _ _ _ m.ordered) in
     let t = nested_test m.callers (m.depth - 1) a.base n.3 in
-    (omega arith, (n.2, (n.1, (ap (λ cs. nested cs (m.depth - 1) a.base) (records c) ∙ t, tt))))
+    record { deep = omega arith; low = n.2; held = n.1; ordered = ap (λ cs. nested cs (m.depth - 1) a.base) (records c) ∙ t }
 
 pub returns-in-None : goal.returns-in-None
 unfolding seen

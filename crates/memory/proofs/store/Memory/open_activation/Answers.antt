@@ -33,7 +33,7 @@ invariant_of-self-2 c =
     let low : m.base ≤ m.depth * 256 = m.low in
     let n = nested_more m.callers m.depth a r.0 (omega arith) low (nested_fact _ _ _ m.ordered) in
     let h : m.depth < 32 = omega (arith, r.0) in
-    (omega arith, (omega arith, (omega arith, (ap (λ cs. nested cs (m.depth + 1) (m.base + (m.variables + kept))) r.1 ∙ nested_test _ _ _ n, tt))))
+    record { deep = omega arith; low = omega arith; held = omega arith; ordered = ap (λ cs. nested cs (m.depth + 1) (m.base + (m.variables + kept))) r.1 ∙ nested_test _ _ _ n }
 
 pub returns : goal.returns
 unfolding seen
