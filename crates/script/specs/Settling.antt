@@ -1,5 +1,5 @@
 -- What a command does to the settings of a port.
-use Rattle.std.specs.Prelude.{Bool, false, cond, List, set, ℤ, Some, None, Option, int_le, nat_lt, slice_set}
+use Rattle.std.specs.Prelude.{Bool, false, cond, List, ℤ, Some, None, Option, int_le, nat_lt, slice_set}
 use Rattle.clip.specs.Clips.{band_answer}
 use Rattle.ports.specs.Calls.{set_answer}
 use Rattle.ports.specs.Channels.{channels}

@@ -9,7 +9,7 @@ use Rattle.traffic.specs.declared.action.Action.{Action}
 use Rattle.traffic.specs.declared.action.Action.TheVariants.{Feed, Take}
 use Rattle.traffic.specs.declared.action.Outcome.{Outcome}
 use Rattle.traffic.specs.declared.action.Outcome.TheVariants.{Fed, Taken, Nothing, Refused}
-use Rattle.traffic.specs.Runs.{Does, done, Ran, taken, accepted, Conserved}
+use Rattle.traffic.specs.Runs.{Does, done, Ran, accepted, Conserved}
 
 never : ◌≡◌ {A = ℕ} 0 1 → ⊥
 never e = omega arith

@@ -5,4 +5,4 @@ use Rattle.piles.proofs.uses.over_latch.Goals as goal
 
 pub returns : goal.returns
 returns c =
-    moved _ _ c.args.c c.args.v c.args.w c.through-four.result c.ranges.v c.ranges.w (ap (paired c.args.high) (ap (paired c.args.low) c.new.ensures)) c.through-four.ensures
+    moved _ _ c.args.c c.args.v c.args.w c.through_four.result c.ranges.v c.ranges.w (ap (paired c.args.high) (ap (paired c.args.low) c.new.ensures)) c.through_four.ensures

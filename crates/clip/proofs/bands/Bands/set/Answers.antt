@@ -22,4 +22,4 @@ invariant_of-self c =
     let p : k < length b.lows = search rules in
     let q : k < length b.highs = search rules in
     let r : low ≤ℤ high = omega (arith, ints) in
-    (rising b.lows b.highs k low high p q r b.rising, tt)
+    record { rising = rising b.lows b.highs k low high p q r b.rising }
