@@ -1,7 +1,7 @@
 -- Every list of symbols has a right answer.
 use Rattle.std.proofs.Common.{◌≡◌, ℕ, ◌<◌, ◌≤◌, List, [], ◌∷◌, ◌++◌, length, drop, sym, refl, ap, ◌∙◌, subst, arith, lit<, length-append}
 use Rattle.std.proofs.lemmas.List.{drop_at}
-use Rattle.grammar.specs.Ebnf.{ref, yield}
+use Rattle.grammar.specs.Ebnf.{ref}
 use Rattle.grammar.specs.Reader.{Why, wrong, deep, Reads, Stops}
 use Rattle.grammar.specs.Language.{NT, Module, Decl, Proc, Heading, Pars, Body, Elem, Const, Set, Range, «Type», Stats, Stat, Action, If, While, Repeat, Loop, Return, For, Control, Index, Args, Expr, Sum, Term, Factor, rule}
 use Rattle.grammar.specs.Sets.{firsts, nulls, follows, rank}

@@ -1,12 +1,12 @@
 -- The claims on lists of symbols, from what is proved of each grammar that passes the check.
-use Rattle.std.proofs.Common.{◌≡◌, ℕ, suc, ◌<◌, ◌≤◌, List, [], ◌∷◌, ◌++◌, length, get_or, take, drop, sym, refl, ap, ◌∙◌, subst, append_assoc, append-nil, arith, drop-cons, take-suc}
+use Rattle.std.proofs.Common.{◌≡◌, ℕ, suc, ◌<◌, ◌≤◌, List, [], ◌∷◌, ◌++◌, length, get_or, take, drop, sym, ap, ◌∙◌, subst, append_assoc, append-nil, arith, drop-cons, take-suc}
 use native.Mathlib.Decide.{dec_lt}
-use Rattle.std.proofs.lemmas.List.{take-append-drop, take_all, length-take-le}
-use Rattle.grammar.specs.Ebnf.{Kind, ref, yield, marks, plain, encloses}
+use Rattle.std.proofs.lemmas.List.{take-append-drop}
+use Rattle.grammar.specs.Ebnf.{ref, marks}
 use Rattle.grammar.specs.Reader.{Why, wrong, deep, Reads, Stops}
 use Rattle.grammar.specs.Language.{Module, rule}
 use Rattle.grammar.specs.Sets.{firsts, nulls, follows, rank}
-use Rattle.grammar.specs.Claims.{Program, symbols, limit, Seventeenth, BeginsWith, Begins, Accepted, Impossible, TooDeep, Answer, tree, impossible, too_deep, Answers, OneTree, OneAnswer, ReaderRight}
+use Rattle.grammar.specs.Claims.{Program, symbols, limit, Seventeenth, BeginsWith, Accepted, Impossible, TooDeep, tree, impossible, too_deep, OneTree, OneAnswer, ReaderRight}
 use Rattle.grammar.proofs.Theory.{sound, not_both, stops_det}
 use Rattle.grammar.proofs.Prefixes.{same_before, front, drop_place, begun_like, begun_long}
 use Rattle.grammar.proofs.Faults as faults

@@ -1,8 +1,8 @@
 -- Where the check passes, each tree is read, or refused at the first symbol that encloses one too many.
-use Rattle.std.proofs.Common.{◌≡◌, ℕ, zero, suc, ◌+◌, ◌≤◌, Bool, cond, not, ◌&&◌, T, ◌⊎◌, List, [], ◌∷◌, ◌++◌, length, sym, refl, ap, ◌∙◌, subst, ap₂, inl, inr, append_assoc, append-nil, arith, T_not, length-append}
+use Rattle.std.proofs.Common.{◌≡◌, ℕ, zero, suc, ◌+◌, ◌≤◌, Bool, cond, not, T, ◌⊎◌, List, [], ◌∷◌, ◌++◌, length, sym, refl, ap, ◌∙◌, subst, ap₂, inl, inr, append_assoc, arith, T_not, length-append}
 use lib.Dec.{not_T}
-use Rattle.grammar.specs.Ebnf.{Kind, factor, statement, G, eps, tok, seq, alt, rep, ref, nest, mem, Tree, unit, leaf, pair, left, right, nil, cons, node, under, yield, Mark, plain, encloses, marks, in_factors, in_statements}
-use Rattle.grammar.specs.Reader.{hd, fits, first, null, Why, wrong, deep, Reads, r_eps, r_tok, r_seq, r_left, r_right, r_nil, r_cons, r_node, r_factor, r_statement, Stops, s_seq, s_then, s_left, s_right, s_item, s_more, s_node, s_factors, s_statements, s_factor, s_statement, subset, apart, implies, ok, ranked, passes}
+use Rattle.grammar.specs.Ebnf.{Kind, factor, statement, G, alt, rep, nest, mem, Tree, unit, leaf, pair, left, right, nil, cons, node, under, yield, Mark, plain, encloses, marks, in_factors, in_statements}
+use Rattle.grammar.specs.Reader.{hd, fits, first, null, deep, Reads, r_eps, r_tok, r_seq, r_left, r_right, r_nil, r_cons, r_node, r_factor, r_statement, Stops, s_seq, s_then, s_left, s_right, s_item, s_more, s_node, s_factors, s_statements, s_factor, s_statement, subset, apart, implies, ok, ranked, passes}
 use Rattle.grammar.proofs.Classes.{or_left, or_right, both, both3, both4, implied, and_in, hd_left, hd_right, hd_sub, fits_sub, fits_left, hd_apart, hd_cond, fits_cond}
 use Rattle.grammar.proofs.Theory.{reads_at, stops_at}
 

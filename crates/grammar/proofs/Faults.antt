@@ -1,16 +1,16 @@
 -- Where the check passes: sentences have one tree, and what a refusal says of its place.
-use Rattle.std.proofs.Common.{◌≡◌, ℕ, zero, suc, ◌+◌, ◌<◌, ◌≤◌, max, Bool, cond, not, ◌&&◌, T, ◌⊎◌, List, [], ◌∷◌, ◌++◌, length, get_or, take, drop, sym, refl, ap, ◌∙◌, subst, ap₂, inl, inr, append_assoc, append-nil, le_of_suc-le-suc, arith, T_not, length-append}
+use Rattle.std.proofs.Common.{◌≡◌, ℕ, zero, suc, ◌<◌, ◌≤◌, max, Bool, cond, T, ◌⊎◌, List, [], ◌∷◌, ◌++◌, length, get_or, take, drop, sym, refl, ap, ◌∙◌, subst, inl, inr, append_assoc, append-nil, le_of_suc-le-suc, arith, length-append}
 use mathlib.Core.List.{nil≢cons}
 use native.Mathlib.Decide.{dec_lt}
 use lib.Dec.{not_T}
 use Rattle.std.proofs.lemmas.List.{take-append-drop, get_or_at, get_or_append_left, take_at, drop_at}
-use Rattle.grammar.specs.Ebnf.{Kind, factor, statement, G, eps, tok, seq, alt, rep, ref, nest, Tree, unit, leaf, pair, left, right, nil, cons, node, under, yield, Mark, plain, encloses, marks, Viable}
-use Rattle.grammar.specs.Reader.{hd, fits, first, null, Why, wrong, deep, Reads, r_eps, r_tok, r_seq, r_left, r_right, r_nil, r_cons, r_node, r_factor, r_statement, Stops, ok, passes}
+use Rattle.grammar.specs.Ebnf.{Kind, factor, statement, G, ref, Tree, unit, leaf, pair, left, right, nil, cons, node, under, yield, Mark, plain, encloses, marks, Viable}
+use Rattle.grammar.specs.Reader.{fits, first, null, Why, wrong, deep, Reads, r_eps, r_tok, r_seq, r_left, r_right, r_nil, r_cons, r_node, r_factor, r_statement, Stops, ok, passes}
 use Rattle.grammar.proofs.Classes.{both, fits_sub, hd_apart}
-use Rattle.grammar.proofs.Theory.{Same, same_append, reads_at, stops_at, sound, det, not_both, local, up, up_wrong, stops_det, stopped}
+use Rattle.grammar.proofs.Theory.{reads_at, stops_at, sound, det, not_both, local, up, up_wrong, stops_det, stopped}
 use Rattle.grammar.proofs.Decides.{Fit, Fits, as_long}
 use Rattle.grammar.proofs.Decides as decides
-use Rattle.grammar.proofs.Prefixes.{same_next, same_before, front, drop_place, begun_like, begun_long}
+use Rattle.grammar.proofs.Prefixes.{same_next, same_before, front, drop_place}
 
 -- a mark among those that fit is no enclosure above the limit
 pub fits_at : (limit : ℕ) (ms : List Mark) (k : ℕ) (κ : Kind) → Fits limit ms → get_or ms k plain ≡ encloses κ (suc limit) → ⊥

@@ -1,8 +1,7 @@
 -- Lists that begin alike.
-use Rattle.std.proofs.Common.{◌≡◌, ℕ, zero, suc, ◌+◌, ◌-◌, ◌<◌, ◌≤◌, min, List, [], ◌∷◌, ◌++◌, length, get_or, take, drop, sym, refl, ap, ◌∙◌, subst, le_of_suc-le-suc, arith, length-append}
-use Rattle.std.proofs.lemmas.List.{length-take, length-drop, take_at, drop_at, take-take, take-append-drop, take_all, length-take-le, take-append-le}
+use Rattle.std.proofs.Common.{◌≡◌, ℕ, zero, suc, ◌≤◌, List, [], ◌∷◌, ◌++◌, length, take, drop, sym, refl, ap, ◌∙◌, arith, length-append}
+use Rattle.std.proofs.lemmas.List.{length-drop, take_at, take-take, length-take-le}
 use Rattle.grammar.specs.Ebnf.{mem}
-use Rattle.grammar.specs.Reader.{hd}
 use Rattle.grammar.proofs.Theory.{Same}
 
 -- what two lists that agree on k + 1 symbols have from k on begins alike

@@ -1,6 +1,6 @@
 -- The grammar of the language passes the check, and each nonterminal has a sentence.
 use Rattle.std.proofs.Common.{T}
-use Rattle.grammar.specs.Ebnf.{ref, Tree, unit, leaf, pair, left, right, nil, cons, node, under}
+use Rattle.grammar.specs.Ebnf.{ref, Tree, unit, leaf, pair, left, right, nil, node, under}
 use Rattle.grammar.specs.Reader.{passes}
 use Rattle.grammar.specs.Language.{NT, Module, Decl, Proc, Heading, Pars, Body, Elem, Const, Set, Range, «Type», Stats, Stat, Action, If, While, Repeat, Loop, Return, For, Control, Index, Args, Expr, Sum, Term, Factor, rule}
 use Rattle.grammar.specs.Sets.{firsts, nulls, follows, rank}

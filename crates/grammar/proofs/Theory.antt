@@ -1,9 +1,9 @@
 -- The reader is sound and single-valued, and depends on no symbol past the next one.
-use Rattle.std.proofs.Common.{◌≡◌, ℕ, zero, suc, ◌≤◌, Bool, true, false, cond, not, ◌&&◌, ◌||◌, T, eqb, ◌⊎◌, List, [], ◌∷◌, ◌++◌, sym, refl, ap, ◌∙◌, subst, ap₂, inl, inr, append_assoc, append-nil, le_of_suc-le-suc, arith, eqb→eq, T_not}
-use lib.Dec.{not_T, T_prop, eqb_refl}
+use Rattle.std.proofs.Common.{◌≡◌, ℕ, zero, suc, ◌≤◌, Bool, not, T, eqb, List, [], ◌∷◌, ◌++◌, sym, refl, ap, ◌∙◌, subst, ap₂, append_assoc, append-nil, le_of_suc-le-suc, arith, T_not}
+use lib.Dec.{T_prop, eqb_refl}
 use Rattle.grammar.proofs.Classes.{or_left}
-use Rattle.grammar.specs.Ebnf.{Kind, factor, statement, G, eps, tok, seq, alt, rep, ref, nest, mem, Tree, unit, leaf, pair, left, right, nil, cons, node, under, yield}
-use Rattle.grammar.specs.Reader.{hd, first, null, Why, wrong, deep, Reads, r_eps, r_tok, r_seq, r_left, r_right, r_nil, r_cons, r_node, r_factor, r_statement, Stops, s_tok, s_seq, s_then, s_left, s_right, s_item, s_more, s_node, s_out, s_factors, s_statements, s_factor, s_statement}
+use Rattle.grammar.specs.Ebnf.{factor, statement, G, eps, tok, seq, alt, rep, ref, nest, mem, Tree, unit, leaf, pair, left, right, nil, cons, node, under, yield}
+use Rattle.grammar.specs.Reader.{hd, first, Why, wrong, deep, Reads, r_eps, r_tok, r_seq, r_left, r_right, r_nil, r_cons, r_node, r_factor, r_statement, Stops, s_tok, s_seq, s_then, s_left, s_right, s_item, s_more, s_node, s_out, s_factors, s_statements, s_factor, s_statement}
 
 abbrev pub Deep : Why → Type 0
 Deep wrong = ⊥

@@ -1,6 +1,6 @@
 -- Where the check passes, every list of symbols is read or refused: no nonterminal is met again before a symbol is read.
-use Rattle.std.proofs.Common.{◌≡◌, ℕ, zero, suc, ◌+◌, ◌<◌, ◌≤◌, Bool, true, false, cond, not, ◌&&◌, T, ltb, ◌⊎◌, List, [], ◌∷◌, ◌++◌, sym, refl, ap, ◌∙◌, subst, inl, inr, arith, ltb→lt, lt→ltb, T_not}
-use Rattle.grammar.specs.Ebnf.{Kind, factor, statement, G, eps, tok, seq, alt, rep, ref, nest, mem, Tree, unit, leaf, pair, left, right, nil, cons, node, under, yield}
+use Rattle.std.proofs.Common.{◌≡◌, ℕ, zero, suc, ◌+◌, ◌<◌, ◌≤◌, Bool, true, false, cond, not, T, ◌⊎◌, List, [], ◌∷◌, ◌++◌, sym, refl, ap, ◌∙◌, subst, inl, inr, arith, ltb→lt, lt→ltb, T_not}
+use Rattle.grammar.specs.Ebnf.{factor, statement, G, eps, tok, seq, alt, rep, ref, nest, mem, Tree, unit, leaf, pair, left, right, nil, cons, node, under, yield}
 use Rattle.grammar.specs.Reader.{hd, first, null, implies, Why, wrong, deep, Reads, r_eps, r_tok, r_seq, r_left, r_right, r_nil, r_cons, r_node, r_factor, r_statement, Stops, s_tok, s_seq, s_then, s_left, s_right, s_item, s_more, s_node, s_out, s_factors, s_statements, s_factor, s_statement, ok, ranked, passes}
 use Rattle.grammar.proofs.Classes.{both, implied, and_in}
 use Rattle.grammar.proofs.Theory.{sound}

@@ -1,8 +1,8 @@
 -- What a list of symbols is answered, in terms of modules alone; and what is claimed of it.
-use Rattle.std.specs.Prelude.{◌≡◌, ℕ, suc, ◌<◌, ◌≤◌, List, [], ◌∷◌, ◌++◌, length, take, drop, ◌≢◌, slice_index_or}
-use Rattle.grammar.specs.Ebnf.{Kind, ref, Tree, yield, Mark, plain, encloses, marks}
+use Rattle.std.specs.Prelude.{◌≡◌, ℕ, suc, ◌<◌, ◌≤◌, List, [], ◌++◌, length, take, drop, ◌≢◌, slice_index_or}
+use Rattle.grammar.specs.Ebnf.{Kind, ref, Tree, yield, plain, encloses, marks}
 use Rattle.grammar.specs.Reader.{Reads, Stops, wrong, deep}
-use Rattle.grammar.specs.Language.{NT, Module, rule}
+use Rattle.grammar.specs.Language.{Module, rule}
 use Rattle.grammar.specs.Sets.{firsts, nulls}
 
 -- a module of the grammar, however deep

@@ -1,6 +1,5 @@
 -- How the steps of the parser put readings together, one combination for each form of grammar expression.
-use Rattle.std.proofs.Common.{◌≡◌, ℕ, zero, suc, ◌+◌, ◌-◌, ◌<◌, ◌≤◌, Bool, true, false, cond, not, ◌&&◌, ◌||◌, T, eqb, ltb, ◌⊎◌, List, [], ◌∷◌, ◌++◌, length, get_or, drop, Ok, Err, Result, sym, refl, ap, ◌∙◌, subst, ap₂, subst₂, inl, inr, append_assoc, le_of_suc-le-suc, add-zero, arith, eqb→eq, ltb→lt, nltb→le, T_not, length-append, drop-cons, lt-ltb}
-use lib.Dec.{not_T, eqb_refl}
+use Rattle.std.proofs.Common.{◌≡◌, ℕ, zero, suc, ◌+◌, ◌-◌, ◌<◌, ◌≤◌, Bool, true, false, cond, not, ◌&&◌, ◌||◌, T, eqb, ltb, ◌⊎◌, List, [], ◌∷◌, ◌++◌, length, get_or, drop, Ok, Err, Result, sym, refl, ap, ◌∙◌, subst, subst₂, inl, inr, append_assoc, add-zero, arith, ltb→lt, nltb→le, T_not, length-append, drop-cons, lt-ltb}
 use Rattle.std.proofs.lemmas.List.{drop_all}
 use Rattle.lexer.specs.declared.symbol.SymbolRecord.{SymbolRecord}
 use Rattle.grammar.specs.Ebnf.{Kind, factor, statement, G, eps, tok, seq, alt, rep, ref, nest, mem, Tree, unit, leaf, pair, left, right, nil, cons, node, under, yield}
@@ -19,7 +18,7 @@ use Rattle.syntax.specs.Value.{Val, value}
 use Rattle.syntax.specs.Syntax.{Syntax}
 use Rattle.syntax.specs.Actions.{act}
 use Rattle.syntax.specs.Post.{Passed, Taken, Added, Pushed, Bad, Got, Made, Went, Goes}
-use Rattle.syntax.proofs.Tags.{tag_past, tags_long}
+use Rattle.syntax.proofs.Tags.{tags_long}
 
 abbrev pub F : G NT → List ℕ
 F = first firsts nulls

@@ -1,11 +1,11 @@
 -- Records that are written one behind another.
-use Rattle.std.proofs.Common.{◌≡◌, ℕ, suc, ◌+◌, ◌-◌, ◌*◌, ◌<◌, ◌≤◌, min, ◌⊎◌, List, [], ◌∷◌, ◌++◌, length, take, set, sym, refl, ap, ◌∙◌, subst, ap₂, inl, inr, append_assoc, append-nil, arith, length-set, take-suc-set}
+use Rattle.std.proofs.Common.{◌≡◌, ℕ, suc, ◌+◌, ◌-◌, ◌*◌, ◌<◌, ◌≤◌, min, ◌⊎◌, List, [], ◌∷◌, ◌++◌, length, take, set, sym, refl, ap, ◌∙◌, subst, ap₂, inl, inr, append_assoc, arith, take-suc-set}
 use Rattle.syntax.specs.declared.step.Cursor.{Cursor}
 use Rattle.vocabulary.specs.declared.tag.Tag.{Tag}
 use Rattle.syntax.specs.declared.tree.NodeKind.{NodeKind}
 use Rattle.syntax.specs.declared.tree.TreeRecord.{TreeRecord}
 use Rattle.syntax.specs.Syntax.{Label, Syntax, leaf, unary, binary, size, label, entry, lay}
-use Rattle.syntax.specs.Post.{tree_limit, Room, Passed, Laid, Lays, Extends, Added}
+use Rattle.syntax.specs.Post.{Room, Passed, Laid, Lays, Extends, Added}
 
 -- a record written behind those in use, if it fits in
 pub added : (r : TreeRecord) (c c' : Cursor) (t t' : List TreeRecord) → c'.at ≡ c.at → c'.used ≡ min (c.used + 1) 18446744073709551615 →

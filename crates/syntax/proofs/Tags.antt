@@ -3,8 +3,7 @@ use Rattle.std.proofs.Common.{◌≡◌, ℕ, zero, suc, ◌+◌, ◌<◌, ◌�
 use Rattle.lexer.specs.declared.symbol.SymbolRecord.{SymbolRecord}
 use Rattle.grammar.specs.Codes.{code}
 use Rattle.syntax.specs.declared.step.Cursor.{Cursor}
-use Rattle.syntax.specs.declared.step.Stop.{Stop}
-use Rattle.syntax.specs.declared.step.Stop.TheVariants.{Impossible, TooDeep}
+use Rattle.syntax.specs.declared.step.Stop.TheVariants.{Impossible}
 use Rattle.syntax.specs.Symbols.{tag_codes, tag_at, place_of, expected}
 use Rattle.vocabulary.specs.declared.tag.Tag.TheVariants.{EndOfSource}
 

@@ -1,7 +1,6 @@
 -- The syntax tree of each rule, from the values of its parts: a symbol's is its index.
 use Rattle.std.specs.Prelude.{ℕ, ◌⊎◌, List, [], ◌∷◌, slice_index_or}
 use Rattle.std.proofs.Common.{inl, inr}
-use Rattle.vocabulary.specs.declared.tag.Tag.{Tag}
 use Rattle.vocabulary.specs.declared.tag.Tag.TheVariants as tag
 use Rattle.lexer.specs.declared.symbol.SymbolRecord.{SymbolRecord}
 use Rattle.lexer.specs.Records.{zero_record}

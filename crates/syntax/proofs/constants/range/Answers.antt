@@ -1,16 +1,13 @@
-use Rattle.std.proofs.Common.{◌≡◌, ℕ, suc, ◌+◌, ◌-◌, ◌<◌, T, ◌⊎◌, List, [], ◌∷◌, sym, refl, ap, ◌∙◌, subst, ap₂, inl, inr, arith, rules}
+use Rattle.std.proofs.Common.{ap, ◌∙◌, ap₂, arith, rules}
 use Rattle.grammar.specs.Codes.{code}
-use Rattle.grammar.specs.Ebnf.{mem}
-use Rattle.grammar.specs.Sets.{firsts}
-use Rattle.grammar.specs.Language.{Elem, Range, Set, Index, Args, Expr, Sum, Term, Factor}
+use Rattle.grammar.specs.Language.{Range}
 use Rattle.vocabulary.specs.declared.tag.Tag.TheVariants.{EndOfSource}
 use Rattle.syntax.specs.declared.tree.NodeKind.TheVariants as kind
-use Rattle.syntax.specs.Symbols.{tag_codes, next_place, place_of, tag_at, next_tag, number_at, word_length, last_root, remaining}
-use Rattle.syntax.specs.Syntax.{Syntax, leaf, unary, binary, label, entry}
-use Rattle.syntax.specs.Actions.{act, items, list}
-use Rattle.syntax.specs.Post.{Passed, Taken, Lays, Extends}
-use Rattle.syntax.proofs.Goes.{On, Off, on_by, off_by, goes_on, goes_expect, goes_seq, goes_inl, goes_inr, goes_none, goes_nil, goes_cons, goes_push, goes_map, goes_node, goes_left, goes_right, goes_wrong, goes_out, goes_deep, goes_around, goes_falls}
-use Rattle.syntax.proofs.Lays.{lays_as, leaf_lays, unary_lays, binary_lays, passed_both, extends_none, extends_join, extends_by, lays_more}
+use Rattle.syntax.specs.Symbols.{last_root}
+use Rattle.syntax.specs.Syntax.{label, entry}
+use Rattle.syntax.specs.Actions.{act}
+use Rattle.syntax.proofs.Goes.{on_by, off_by, goes_on, goes_seq, goes_inl, goes_inr, goes_none, goes_push, goes_map, goes_node}
+use Rattle.syntax.proofs.Lays.{lays_as, binary_lays, extends_none, lays_more}
 use Rattle.syntax.proofs.constants.range.Goals as goal
 
 pub returns-in-Range : goal.returns-in-Range
@@ -26,8 +23,8 @@ returns-in-Range c d e =
     (c.bare.ensures ∙ ap₂ (λ a b. entry (label kind.Range EndOfSource 0 0) a b) (c.root.ensures ∙ ap last_root y.came) (c.root-in-Range.ensures ∙ ap last_root x.came)) 0 (omega arith)))
     (goes_push _ _ (goes_seq _ _ (c.elem-first.ensures d e) (goes_inl _ _ (on_by 54 k tt tt) (goes_seq _ _ (goes_on _ _ c.advance.ensures (on_by 54 k tt tt)) (c.elem-last.ensures d e)))) c.push.ensures))
 
-pub returns-in-default : goal.returns-in-default
-returns-in-default c d e =
+pub returns-in_default : goal.returns-in_default
+returns-in_default c d e =
     let s = c.args.source.now in
     let rs = c.args.symbols.now in
     goes_node _ _ (goes_map _ _

@@ -1,16 +1,15 @@
-use Rattle.std.proofs.Common.{◌≡◌, ℕ, suc, ◌+◌, ◌-◌, ◌<◌, T, ◌⊎◌, List, [], ◌∷◌, sym, refl, ap, ◌∙◌, subst, ap₂, inl, inr, arith, rules}
+use Rattle.std.proofs.Common.{T, refl, ap, ◌∙◌, ap₂, inl, inr, arith, rules}
 use Rattle.grammar.specs.Codes.{code}
 use Rattle.grammar.specs.Ebnf.{mem}
 use Rattle.grammar.specs.Sets.{firsts}
-use Rattle.grammar.specs.Language.{Elem, Range, Set, Index, Args, Expr, Sum, Term, Factor}
+use Rattle.grammar.specs.Language.{Range}
 use Rattle.vocabulary.specs.declared.tag.Tag.TheVariants.{EndOfSource}
 use Rattle.syntax.specs.declared.tree.NodeKind.TheVariants as kind
-use Rattle.syntax.specs.Symbols.{tag_codes, next_place, place_of, tag_at, next_tag, number_at, word_length, last_root, remaining}
-use Rattle.syntax.specs.Syntax.{Syntax, leaf, unary, binary, label, entry}
-use Rattle.syntax.specs.Actions.{act, items, list}
-use Rattle.syntax.specs.Post.{Passed, Taken, Lays, Extends}
-use Rattle.syntax.proofs.Goes.{On, Off, on_by, off_by, goes_on, goes_expect, goes_seq, goes_inl, goes_inr, goes_none, goes_nil, goes_cons, goes_push, goes_map, goes_node, goes_left, goes_right, goes_wrong, goes_out, goes_deep, goes_around, goes_falls}
-use Rattle.syntax.proofs.Lays.{lays_as, leaf_lays, unary_lays, binary_lays, passed_both, extends_none, extends_join, extends_by, lays_more}
+use Rattle.syntax.specs.Symbols.{last_root}
+use Rattle.syntax.specs.Syntax.{label, entry}
+use Rattle.syntax.specs.Actions.{items}
+use Rattle.syntax.proofs.Goes.{on_by, off_by, goes_seq, goes_inl, goes_inr, goes_none, goes_push, goes_map}
+use Rattle.syntax.proofs.Lays.{extends_none, extends_join, extends_by}
 use Rattle.syntax.proofs.constants.ranges.Goals as goal
 
 pub returns-in-Minus : goal.returns-in-Minus
@@ -25,10 +24,10 @@ returns-in-Minus c d e =
     (extends_join {n = 0} (record { on = omega arith; same = refl; used = refl }) y.one y.two
     (c.bare.ensures ∙ ap₂ (λ a b. entry (label kind.Link EndOfSource 0 0) a b) (c.root.ensures ∙ ap last_root q) (c.root-in-Minus.ensures ∙ ap last_root y.came))
     x.wrote.two 1 (omega arith)))
-    (goes_inl _ _ (on_by (code c.next.result) c.next.ensures.coded tt m) (goes_seq _ _ (goes_push _ _ (c.range-item.ensures d e) c.push-joined.ensures) (c.more-ranges.ensures d e)))
+    (goes_inl _ _ (on_by (code c.next.result) c.next.ensures.coded tt m) (goes_seq _ _ (goes_push _ _ (c.range-item.ensures d e) c.push-joined.ensures) (c.more_ranges.ensures d e)))
 
-pub returns-in-default : goal.returns-in-default
-returns-in-default c d e =
+pub returns-in_default : goal.returns-in_default
+returns-in_default c d e =
     let s = c.args.source.now in
     let rs = c.args.symbols.now in
     goes_map _ _

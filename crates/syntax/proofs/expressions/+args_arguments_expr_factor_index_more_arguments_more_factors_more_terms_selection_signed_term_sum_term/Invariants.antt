@@ -8,8 +8,8 @@ decreases-expr l = remaining l.symbols.now l.start * 16 + 12
 abbrev pub decreases-sum : goal.decreases-sum
 decreases-sum l = remaining l.symbols.now l.start * 16 + 11
 
-abbrev pub decreases-signed-term : goal.decreases-signed-term
-decreases-signed-term l = remaining l.symbols.now l.start * 16 + 10
+abbrev pub decreases-signed_term : goal.decreases-signed_term
+decreases-signed_term l = remaining l.symbols.now l.start * 16 + 10
 
 abbrev pub decreases-term : goal.decreases-term
 decreases-term l = remaining l.symbols.now l.start * 16 + 9
@@ -17,11 +17,11 @@ decreases-term l = remaining l.symbols.now l.start * 16 + 9
 abbrev pub decreases-factor : goal.decreases-factor
 decreases-factor l = remaining l.symbols.now l.start * 16 + 8
 
-abbrev pub decreases-more-factors : goal.decreases-more-factors
-decreases-more-factors l = remaining l.symbols.now l.before * 16 + 7
+abbrev pub decreases-more_factors : goal.decreases-more_factors
+decreases-more_factors l = remaining l.symbols.now l.before * 16 + 7
 
-abbrev pub decreases-more-terms : goal.decreases-more-terms
-decreases-more-terms l = remaining l.symbols.now l.before * 16 + 5
+abbrev pub decreases-more_terms : goal.decreases-more_terms
+decreases-more_terms l = remaining l.symbols.now l.before * 16 + 5
 
 abbrev pub decreases-selection : goal.decreases-selection
 decreases-selection l = remaining l.symbols.now l.after * 16 + 4
@@ -35,5 +35,5 @@ decreases-args l = remaining l.symbols.now l.start * 16 + 3
 abbrev pub decreases-arguments : goal.decreases-arguments
 decreases-arguments l = remaining l.symbols.now l.before * 16 + 13
 
-abbrev pub decreases-more-arguments : goal.decreases-more-arguments
-decreases-more-arguments l = remaining l.symbols.now l.before * 16 + 1
+abbrev pub decreases-more_arguments : goal.decreases-more_arguments
+decreases-more_arguments l = remaining l.symbols.now l.before * 16 + 1
