@@ -1,26 +1,24 @@
 -- Instructions that meet the port, and those that open and close activations.
-use Rattle.std.proofs.Common.{◌≡◌, ℕ, zero, suc, ◌+◌, ◌*◌, ◌/◌, ◌%◌, ◌<◌, ◌≤◌, Bool, true, false, cond, ◌&&◌, eqb, ltb, leb, List, [], ◌∷◌, ◌++◌, reverse, length, get_or, take, drop, set, ℤ, pos, negsuc, nat_abs, Some, None, Ok, Err, Option, sym, refl, ap, ◌∙◌, subst, ap₂, le_refl, add-one, arith}
-use lib.Signed.{le_z}
-use Rattle.std.proofs.lemmas.Bool.{lt-ltb, le-leb, ltb-true, leb-true, eqb-true}
+use Rattle.std.proofs.Common.{◌≡◌, ℕ, suc, ◌+◌, ◌*◌, ◌<◌, ◌≤◌, Bool, true, false, cond, eqb, ltb, List, [], ◌∷◌, ◌++◌, reverse, length, take, drop, ℤ, pos, negsuc, nat_abs, Some, None, Ok, Err, refl, ap, ◌∙◌, le_refl, add-one, arith}
+use Rattle.std.proofs.lemmas.Bool.{lt-ltb, le-leb, eqb-true}
 use Rattle.std.proofs.lemmas.Nat.{div-mul-add, mod-mul-add}
 use Rattle.std.proofs.lemmas.Int.{ints}
-use Rattle.ports.specs.Calls.{oldest, take_answer, take_after, set_answer, set_after}
+use Rattle.ports.specs.Calls.{oldest, take_after, set_answer, set_after}
 use Rattle.ports.specs.Channels.{Meaning}
 use Rattle.ports.specs.Events.{took, set_to}
 use Rattle.integer.specs.Ends.{integer, within}
-use Rattle.instructions.specs.State.{State as Memory, Words, Caller, became}
-use Rattle.instructions.specs.Moves.{ok, fail, pull, push, operand, replace, open_activation, close_activation}
-use Rattle.instructions.specs.Steps.{View, gone, did, halted, step, met, effect, took_or_waits, set_or_not, with_parts, takes, sets}
+use Rattle.instructions.specs.State.{Caller, became}
+use Rattle.instructions.specs.Moves.{pull, push, operand, replace, open_activation, close_activation}
+use Rattle.instructions.specs.Steps.{gone, did, halted, step, met, effect, took_or_waits, set_or_not}
 use Rattle.instructions.specs.declared.answers.Outcome.TheVariants as answer
-use Rattle.instructions.specs.declared.answers.Fault.TheVariants.{Trap as Trapping}
 use Rattle.instructions.specs.declared.answers.Status.TheVariants.{Ended}
 use Rattle.instructions.specs.declared.answers.Trap.TheVariants.{Activations}
 use Rattle.instructions.specs.declared.instruction.Instruction.{Instruction}
 use Rattle.instructions.specs.declared.operation.Operation.TheVariants as op
 use Rattle.semantics.specs.Values.{is_channel}
 use Rattle.agreement.specs.Generator.{at_place}
-use Rattle.agreement.proofs.Traced.{Traced, Mark, turned, passed, marks, Goes, executes, passes}
-use Rattle.agreement.proofs.Executing.{At, memory, seen, traced, fetches, same_depth, pushes, Obeys, Fails}
+use Rattle.agreement.proofs.Traced.{Mark, turned, passed, Goes, executes, passes}
+use Rattle.agreement.proofs.Executing.{At, memory, seen, traced, fetches, same_depth, Fails}
 
 -- a channel's number is below 16
 pub channel_below : (x : ℤ) → is_channel x ≡ true → nat_abs x < 16

@@ -1,5 +1,5 @@
 -- Constants as operands, tests as facts, and what an answer is known to be.
-use Rattle.std.proofs.Common.{◌≡◌, ℕ, ◌-◌, ◌<◌, ◌≤◌, true, false, ltb, ℤ, pos, negsuc, nat_abs, Some, None, Option, refl, subst, inl, inr, arith}
+use Rattle.std.proofs.Common.{◌≡◌, ℕ, ◌-◌, ◌<◌, ◌≤◌, true, false, ltb, ℤ, pos, negsuc, nat_abs, Some, Option, refl, subst, inl, inr, arith}
 use Rattle.std.proofs.lemmas.Int.{ints}
 use Rattle.std.proofs.lemmas.Bool.{lt-ltb}
 use Rattle.integer.specs.Ends.{Ends, integer, Within, within}

@@ -1,25 +1,25 @@
 -- Instructions at work, by what the table says of each.
-use Rattle.std.proofs.Common.{◌≡◌, ℕ, zero, suc, ◌+◌, ◌*◌, ◌<◌, ◌≤◌, Bool, true, false, cond, T, eqb, ltb, leb, List, [], ◌∷◌, ◌++◌, length, get_or, set, ℤ, pos, negsuc, ◌+ℤ◌, ◌-ℤ◌, Some, None, Ok, Err, Option, sym, refl, ap, ◌∙◌, subst, le_refl, add-one, arith}
+use Rattle.std.proofs.Common.{◌≡◌, ℕ, suc, ◌+◌, ◌<◌, ◌≤◌, Bool, true, false, cond, eqb, ltb, List, [], ◌∷◌, ◌++◌, length, get_or, set, ℤ, pos, negsuc, ◌-ℤ◌, Some, None, refl, ap, ◌∙◌, le_refl, add-one, arith}
 use Rattle.std.proofs.lemmas.List.{get_or-set_other}
 use Rattle.std.proofs.lemmas.Bool.{lt-ltb, le-leb, eq-eqb, le-ltb}
 use Rattle.ports.specs.Channels.{Meaning}
-use Rattle.instructions.specs.State.{State as Memory, Words, Caller, became}
+use Rattle.instructions.specs.State.{State as Memory, Caller, became}
 use Rattle.instructions.specs.Numbers.{asks}
-use Rattle.instructions.specs.Moves.{Done, ok, fail, pull, push, operand, variable, store_variable, global, store_global, make_variables, open_activation, close_activation}
+use Rattle.instructions.specs.Moves.{ok, fail, pull, push, operand, variable, store_variable, global, store_global, make_variables}
 use Rattle.instructions.specs.Table.{obeyed, indexed}
 use Rattle.instructions.specs.Values.{signed, natural}
-use Rattle.instructions.specs.Steps.{View, Move, gone, did, halted, step, stepped, fetched, met, none, effect, effect_by, settled}
+use Rattle.instructions.specs.Steps.{View, gone, step, met, none, effect, effect_by, settled}
 use Rattle.instructions.specs.declared.answers.PortCall.TheVariants.{None as Nothing}
-use Rattle.instructions.specs.declared.answers.Fault.TheVariants.{Broken as BrokenFault, Trap as Trapping}
-use Rattle.instructions.specs.declared.answers.Status.TheVariants.{Running, Ended, Trapped}
+use Rattle.instructions.specs.declared.answers.Fault.TheVariants.{Trap as Trapping}
+use Rattle.instructions.specs.declared.answers.Status.TheVariants.{Running, Trapped}
 use Rattle.instructions.specs.declared.answers.Trap.{Trap}
-use Rattle.instructions.specs.declared.answers.Trap.TheVariants.{Range, Divisor, Index as IndexTrap, Channel as ChannelTrap, Element as ElementTrap, Activations, NoResult as NoResultTrap}
+use Rattle.instructions.specs.declared.answers.Trap.TheVariants.{Index as IndexTrap, Channel as ChannelTrap, Element as ElementTrap, NoResult as NoResultTrap}
 use Rattle.instructions.specs.declared.instruction.Instruction.{Instruction}
 use Rattle.instructions.specs.declared.operation.Operation.TheVariants as op
 use Rattle.semantics.specs.State.{zeros}
 use Rattle.semantics.specs.Values.{fails, is_element, is_channel, counted}
-use Rattle.agreement.specs.Generator.{plain, at_place}
-use Rattle.agreement.proofs.Traced.{Traced, Mark, turned, marks, Goes, executes, passes}
+use Rattle.agreement.specs.Generator.{at_place}
+use Rattle.agreement.proofs.Traced.{Traced, Mark, turned, Goes, executes}
 
 -- the instruction at p
 pub record At (c : List Instruction) (p : ℕ) (i : Instruction) : Type 0 where

@@ -1,33 +1,32 @@
 -- The code of an expression does what the expression means.
-use Rattle.std.proofs.Common.{◌≡◌, ℕ, zero, suc, ◌+◌, ◌-◌, ◌*◌, ◌<◌, ◌≤◌, max, Bool, true, false, cond, T, ltb, List, [], ◌∷◌, ◌++◌, reverse, length, take, drop, ℤ, pos, ◌-ℤ◌, nat_abs, Some, None, Option, sym, refl, ap, ◌∙◌, subst, ap₂, append_assoc, le_refl, add-zero, zero-add, arith, length-append, length-drop, length-take, take_at, drop_at}
+use Rattle.std.proofs.Common.{◌≡◌, ℕ, suc, ◌+◌, ◌*◌, ◌<◌, ◌≤◌, Bool, true, false, T, ltb, List, [], ◌∷◌, ◌++◌, reverse, length, take, drop, ℤ, pos, Some, None, Option, sym, refl, ap, ◌∙◌, subst, ap₂, append_assoc, arith, length-append, length-drop, length-take, take_at, drop_at}
 use mathlib.Core.List.{reverse-cons, reverse-reverse}
 use lib.ListN.{length-reverse, length-replicate, replicate-append-replicate}
 use Rattle.std.proofs.lemmas.Bool.{ltb-true}
 use Rattle.instructions.specs.State.{Caller}
-use Rattle.instructions.specs.Steps.{step}
 use Rattle.instructions.specs.Traps.{trap_number}
 use Rattle.instructions.specs.declared.instruction.Instruction.{Instruction}
 use Rattle.instructions.specs.declared.operation.Operation.TheVariants as op
 use Rattle.semantics.specs.Program.{BasicType, INTEGER, BOOLEAN, BITSET, Variable, Array, Unary, Binary, add, subtract, multiply, divide, modulo, union, difference, intersection, equal, unequal, less, at_most, greater, at_least, Expr, constant, variable, element, unary, binary, member, both, either, call, Args, none, more, arity, Target, whole, item, Stat, Procedure, Program, procedure}
 use Rattle.semantics.specs.Values.{Value, fails, unary_answer, binary_answer, binary_trap, is_element, contained, position}
-use Rattle.semantics.specs.State.{State, Outcome, trap, Res, done, stopped, Flow, falls, exits, returns, gives, bind, zeros, read, behind, enter, leaving, leave, activation}
+use Rattle.semantics.specs.State.{State, trap, Res, done, stopped, Flow, falls, exits, returns, gives, bind, zeros, read, behind, enter, leaving, leave}
 use Rattle.semantics.specs.Meaning.{Rec, branch, checked, answered, located, resulted, openable, eval_with, args_with, target_with}
 use Rattle.semantics.specs.Extent.{for_depth}
 use Rattle.semantics.specs.Laws.{Valued}
 use Rattle.semantics.specs.WellFormed.{Block, BlockKind, in_module, in_procedure, in_function, kind_of, block, Holds, ArrayOf, unary_takes, unary_gives, Takes, binary_gives, WellTyped, Arguments, Stores, Returns, Statement, WellFormedProcedure}
 use Rattle.agreement.specs.Claims.{spare}
-use Rattle.agreement.specs.Generator.{plain, at_place, constant_code, unary_operation, binary_operation, call_code, closing, first, entry, expr_end, args_end, target_end, stat_end, expr_code, args_code, target_code, stat_code, procedure_code}
-use Rattle.agreement.proofs.Traced.{Traced, Mark, turned, Goes, Steps, here, go, Thin, th_open, th_turn, After, lands, stops, step_in, pay, onto, bind_l}
+use Rattle.agreement.specs.Generator.{at_place, constant_code, unary_operation, binary_operation, call_code, closing, first, entry, expr_end, args_end, target_end, stat_end, expr_code, args_code, target_code, stat_code, procedure_code}
+use Rattle.agreement.proofs.Traced.{Traced, Mark, turned, Goes, here, go, th_open, th_turn, After, lands, step_in, pay, onto, bind_l}
 use Rattle.agreement.proofs.Executing.{At, memory, traced, ahead, next, obeys_integer, obeys_index, fails_index, obeys_element, fails_element, obeys_jump, obeys_jump_if, obeys_stay_if, obeys_jump_unless, obeys_stay_unless, obeys_enter, fails_no_result}
 use Rattle.agreement.proofs.Operators.{binary_fault, obeys_unary, fails_unary, obeys_binary, fails_binary, obeys_in}
-use Rattle.agreement.proofs.Calling.{caller, calls, refuses, closes}
+use Rattle.agreement.proofs.Calling.{caller, calls, refuses}
 use Rattle.semantics.proofs.Answering.{truth_value, unary_value, binary_value}
 use Rattle.semantics.proofs.Wording.{opened_valued, position_below}
 use Rattle.agreement.proofs.Words.{valued_length}
 use Rattle.agreement.proofs.Encoding.{answered_with}
-use Rattle.agreement.proofs.Positions.{Has, has_e, has_a, has_t, has_s, up_e}
+use Rattle.agreement.proofs.Positions.{Has, has_e, has_a, has_s, up_e}
 use Rattle.agreement.proofs.Operands.{need, args_need, target_need, need_some}
-use Rattle.agreement.proofs.Matching.{mk, Good, Ground, Inside, Owes, room, element_holds, read_value, loads, loads_element, loads_constant, trapped, locals_length}
+use Rattle.agreement.proofs.Matching.{mk, Good, Ground, Inside, Owes, room, element_holds, read_value, loads, loads_element, loads_constant, trapped}
 
 -- what a statement lands at: behind it, behind its LOOP, or in its caller
 abbrev pub returned : Program → List Instruction → List Caller → List ℤ → State → List Mark → Traced

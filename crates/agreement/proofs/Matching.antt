@@ -1,29 +1,29 @@
 -- How a board's state matches the meaning's, and what stays good as both go on.
-use Rattle.std.proofs.Common.{◌≡◌, ℕ, zero, suc, ◌+◌, ◌-◌, ◌*◌, ◌<◌, ◌≤◌, Bool, true, false, cond, T, eqb, ltb, ◌⊎◌, List, [], ◌∷◌, ◌++◌, length, get_or, take, drop, set, replicate, ℤ, pos, negsuc, ◌-ℤ◌, nat_abs, Some, None, sym, refl, ap, ◌∙◌, subst, ap₂, inl, inr, append_assoc, add-zero, suc-add, zero-add, arith, length-append, length-set}
+use Rattle.std.proofs.Common.{◌≡◌, ℕ, suc, ◌+◌, ◌<◌, ◌≤◌, Bool, true, false, cond, eqb, ltb, List, [], ◌∷◌, ◌++◌, length, take, drop, replicate, ℤ, pos, Some, refl, ap, subst, arith, length-append}
 use mathlib.Core.Option.{some}
-use lib.ListN.{get_elem?, length-replicate}
-use Rattle.std.proofs.lemmas.List.{get_or_append_left, set-append_left, get_or-append-add}
+use lib.ListN.{get_elem?}
+use Rattle.std.proofs.lemmas.List.{get_or_append_left, set-append_left}
 use Rattle.std.specs.List.{AllByRecursion as All}
 use Rattle.integer.specs.Ends.{integer, Within}
-use Rattle.ports.specs.Calls.{changed, oldest, newer, take_after, set_after}
-use Rattle.ports.specs.Channels.{Channel, Meaning, holding, showing}
-use Rattle.ports.specs.Events.{Event, took, set_to, left}
+use Rattle.ports.specs.Calls.{changed, oldest, newer}
+use Rattle.ports.specs.Channels.{Channel, Meaning}
+use Rattle.ports.specs.Events.{Event, took, set_to}
 use Rattle.ports.specs.Law.{Integer}
-use Rattle.instructions.specs.State.{State as Memory, Caller}
-use Rattle.instructions.specs.Steps.{step, halted}
+use Rattle.instructions.specs.State.{Caller}
+use Rattle.instructions.specs.Steps.{step}
 use Rattle.instructions.specs.Traps.{trap_number}
 use Rattle.instructions.specs.declared.answers.Outcome.TheVariants as answer
 use Rattle.instructions.specs.declared.answers.Trap.{Trap}
 use Rattle.instructions.specs.declared.instruction.Instruction.{Instruction}
-use Rattle.semantics.specs.Program.{BasicType, INTEGER, BOOLEAN, BITSET, Variable, global, local, Array, Expr, Args, Stat, Procedure, Program, procedure}
+use Rattle.semantics.specs.Program.{BasicType, INTEGER, BOOLEAN, BITSET, Variable, global, local, Array, Program}
 use Rattle.semantics.specs.Values.{Value}
-use Rattle.semantics.specs.State.{State, Tick, round, activation, event, Outcome, trap, Res, done, stopped, Flow, falls, exits, returns, gives, read, store as stored, behind, tick, happened}
+use Rattle.semantics.specs.State.{State, round, trap, stopped, read, store as stored, behind, tick, happened}
 use Rattle.semantics.specs.Laws.{Valued}
-use Rattle.semantics.specs.WellFormed.{Block, BlockKind, in_module, in_procedure, in_function, Holds, ArrayOf, Returns, words_of, place_of}
+use Rattle.semantics.specs.WellFormed.{Block, BlockKind, in_module, in_procedure, in_function, Holds, ArrayOf, words_of, place_of}
 use Rattle.agreement.specs.Claims.{spare}
 use Rattle.agreement.specs.Generator.{load, store, load_element, store_element, constant_code}
-use Rattle.agreement.proofs.Traced.{Traced, Mark, turned, passed, Goes, Steps, here, go, Thin, th_event, th_round, th_turn, th_lose, After, lands, stops, Final}
-use Rattle.agreement.proofs.Executing.{At, memory, traced, next, next_storing, Obeys, Fails, traps, obeys_integer, obeys_set, obeys_global, obeys_local, obeys_store_global, obeys_store_local, obeys_global_element, obeys_local_element, obeys_store_global_element, obeys_store_local_element}
+use Rattle.agreement.proofs.Traced.{Traced, Mark, turned, passed, Goes, here, go, Thin, th_event, th_round, th_turn, th_lose, After, stops}
+use Rattle.agreement.proofs.Executing.{At, memory, traced, next, next_storing, Fails, traps, obeys_integer, obeys_set, obeys_global, obeys_local, obeys_store_global, obeys_store_local, obeys_global_element, obeys_local_element, obeys_store_global_element, obeys_store_local_element}
 use Rattle.semantics.proofs.Wording.{valued_at, valued_set, element_typed}
 use Rattle.agreement.proofs.Words.{valued_length, word_there}
 use Rattle.agreement.proofs.Encoding.{signed_encoded, signed_truth, signed_set}

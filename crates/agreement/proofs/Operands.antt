@@ -1,7 +1,7 @@
 -- How many operands an expression needs at a time, bounded by how deep it is enclosed.
-use Rattle.std.proofs.Common.{◌≡◌, ℕ, zero, suc, ◌+◌, ◌-◌, ◌*◌, ◌<◌, ◌≤◌, max, Bool, true, false, cond, ltb, List, [], ◌∷◌, length, take, sym, refl, ap, ◌∙◌, arith, length-take}
-use Rattle.std.proofs.lemmas.Bool.{ltb-true, ltb-false}
-use Rattle.semantics.specs.Program.{BasicType, Expr, constant, variable, element, unary, binary, member, both, either, call, Args, none, more, arity, Unary, negate, complement, absolute, odd, Binary, add, subtract, multiply, divide, modulo, union, difference, intersection, equal, unequal, less, at_most, greater, at_least, Target, whole, item, Procedure, Program, procedure}
+use Rattle.std.proofs.Common.{◌≡◌, ℕ, suc, ◌+◌, ◌*◌, ◌≤◌, max, Bool, true, false, cond, ltb, refl, arith}
+use Rattle.std.proofs.lemmas.Bool.{ltb-false}
+use Rattle.semantics.specs.Program.{Expr, constant, variable, element, unary, binary, member, both, either, call, Args, none, more, arity, Unary, negate, complement, absolute, odd, Binary, add, subtract, multiply, divide, modulo, union, difference, intersection, equal, unequal, less, at_most, greater, at_least, Target, whole, item}
 use Rattle.semantics.specs.Extent.{level, binary_level, unary_level, enclosed, left_level, unary_depth, binary_depth, depth, args_depth}
 
 abbrev mutual

@@ -1,9 +1,7 @@
 -- Operators at work: the table's operation answers what the operator means.
-use Rattle.std.proofs.Common.{◌≡◌, ℕ, zero, suc, ◌+◌, ◌<◌, ◌≤◌, Bool, true, false, cond, ltb, List, [], ◌∷◌, ◌++◌, length, get_or, ℤ, pos, negsuc, ◌+ℤ◌, ◌-ℤ◌, nat_abs, Some, None, Option, sym, refl, ap, ◌∙◌, subst, arith}
+use Rattle.std.proofs.Common.{◌≡◌, ℕ, suc, ◌+◌, ◌<◌, true, List, ◌∷◌, length, ℤ, Some, None, Option, refl, ap, ◌∙◌, arith}
 use Rattle.std.proofs.lemmas.Bool.{lt-ltb}
-use Rattle.integer.specs.Division.{divided}
-use Rattle.integer.specs.Ends.{integer, kept}
-use Rattle.instructions.specs.State.{State as Memory, Caller}
+use Rattle.instructions.specs.State.{Caller}
 use Rattle.instructions.specs.Moves.{ok, fail, pull, push, operand}
 use Rattle.instructions.specs.Table.{answer}
 use Rattle.instructions.specs.Values.{goes_on, following}
@@ -11,9 +9,9 @@ use Rattle.instructions.specs.declared.answers.Fault.TheVariants.{Trap as Trappi
 use Rattle.instructions.specs.declared.answers.Trap.{Trap}
 use Rattle.instructions.specs.declared.answers.Trap.TheVariants.{Range, Divisor, Element as ElementTrap}
 use Rattle.instructions.specs.declared.operation.Operation.TheVariants as op
-use Rattle.semantics.specs.Program.{Unary, negate, complement, absolute, odd, Binary, add, subtract, multiply, divide, modulo, union, difference, intersection, equal, unequal, less, at_most, greater, at_least, Update, increase, decrease, include, exclude}
-use Rattle.semantics.specs.Values.{truth, fails, unary_answer, binary_answer, updated, is_element, contained}
-use Rattle.agreement.specs.Generator.{plain, at_place, unary_operation, binary_operation}
+use Rattle.semantics.specs.Program.{Unary, negate, complement, absolute, odd, Binary, add, subtract, multiply, divide, modulo, union, difference, intersection, equal, unequal, less, at_most, greater, at_least, include, exclude}
+use Rattle.semantics.specs.Values.{truth, unary_answer, binary_answer, updated, is_element, contained}
+use Rattle.agreement.specs.Generator.{at_place, unary_operation, binary_operation}
 use Rattle.agreement.proofs.Executing.{memory, Obeys, Fails, pushes}
 
 -- the trap of an operator without an answer

@@ -1,11 +1,11 @@
 -- Where the code of each part lies in a list, and how long it is.
-use Rattle.std.proofs.Common.{◌≡◌, ℕ, zero, suc, ◌+◌, ◌*◌, ◌<◌, ◌≤◌, List, [], ◌∷◌, ◌++◌, length, get_or, drop, sym, refl, ap, ◌∙◌, subst, le_refl, arith}
+use Rattle.std.proofs.Common.{◌≡◌, ℕ, zero, suc, ◌+◌, ◌*◌, ◌<◌, ◌≤◌, List, [], ◌∷◌, ◌++◌, length, get_or, drop, refl, ap, ◌∙◌, subst, le_refl, arith}
 use Rattle.instructions.specs.Steps.{none as no_instruction}
 use Rattle.instructions.specs.declared.instruction.Instruction.{Instruction}
 use Rattle.instructions.specs.declared.operation.Operation.TheVariants as op
-use Rattle.semantics.specs.Program.{BasicType, INTEGER, Expr, constant, variable, element, unary, binary, member, both, either, call, Args, none, more, Target, whole, item, Update, increase, decrease, include, exclude, Stat, skip, assign, update, take, put, perform, seq, choose, while, repeat, loop, for, exit, return, give, halt, Procedure, Program, procedure, missing}
+use Rattle.semantics.specs.Program.{Expr, constant, variable, element, unary, binary, member, both, either, call, Args, none, more, Target, whole, item, Update, increase, decrease, include, exclude, Stat, skip, assign, update, take, put, perform, seq, choose, while, repeat, loop, for, exit, return, give, halt, Procedure, Program, missing}
 use Rattle.semantics.specs.Extent.{symbols, args_symbols, target_symbols, stat_symbols, procedures_symbols, program_symbols, for_depth}
-use Rattle.agreement.specs.Generator.{plain, at_place, further, expr_end, args_end, target_end, fetch_end, raise_end, update_end, stat_end, procedure_end, procedures_end, entry, first, module_start, expr_code, args_code, target_code, fetch_code, raise_code, update_code, stat_code, procedure_code, procedures_code, closing, generate}
+use Rattle.agreement.specs.Generator.{plain, further, expr_end, args_end, target_end, fetch_end, raise_end, update_end, stat_end, procedure_end, procedures_end, entry, first, module_start, expr_code, args_code, target_code, fetch_code, raise_code, update_code, stat_code, procedure_code, procedures_code, generate}
 use Rattle.agreement.proofs.Executing.{At}
 
 -- the instructions is lie from p on

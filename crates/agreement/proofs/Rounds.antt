@@ -1,5 +1,5 @@
 -- Jumps to the same or a lower index are those for a loop's next round.
-use Rattle.std.proofs.Common.{◌≡◌, ℕ, zero, suc, ◌+◌, ◌*◌, ◌<◌, ◌≤◌, Bool, true, false, cond, T, ◌⊎◌, List, [], ◌∷◌, ◌++◌, length, get_or, ℤ, pos, Some, None, Option, sym, refl, ap, ◌∙◌, subst, inl, inr, ⊎_elim, arith}
+use Rattle.std.proofs.Common.{◌≡◌, ℕ, zero, suc, ◌+◌, ◌<◌, ◌≤◌, Bool, true, false, cond, T, ◌⊎◌, List, [], ◌∷◌, ◌++◌, length, get_or, ℤ, pos, Some, None, Option, sym, refl, ap, subst, inl, inr, arith}
 use lib.Signed.{le_z}
 use Rattle.std.specs.List.{AllByRecursion as All}
 use Rattle.instructions.specs.Numbers.{number_of}
@@ -8,9 +8,9 @@ use Rattle.instructions.specs.declared.instruction.Instruction.{Instruction}
 use Rattle.instructions.specs.declared.operation.Operation.{Operation}
 use Rattle.instructions.specs.declared.operation.Operation.TheVariants as op
 use Rattle.semantics.specs.Program.{BasicType, INTEGER, BOOLEAN, BITSET, Variable, global, local, Unary, negate, complement, absolute, odd, Binary, add, subtract, multiply, divide, modulo, union, difference, intersection, equal, unequal, less, at_most, greater, at_least, Expr, constant, variable, element, unary, binary, member, both, either, call, Args, none, more, Target, whole, item, Update, increase, decrease, include, exclude, Stat, skip, assign, update, take, put, perform, seq, choose, while, repeat, loop, for, exit, return, give, halt, Procedure, Program}
-use Rattle.semantics.specs.WellFormed.{Block, block, module_block, Statement, WellFormed, WellFormedProcedure}
-use Rattle.agreement.specs.Generator.{plain, at_place, constant_code, load, store, load_element, store_element, unary_operation, binary_operation, further, expr_end, args_end, target_end, fetch_end, raise_end, update_end, stat_end, procedure_end, procedures_end, first, module_start, expr_code, args_code, target_code, fetch_code, raise_code, keep_code, update_code, first_test, stat_code, closing, procedure_code, procedures_code, generate}
-use Rattle.agreement.specs.Jumps.{next_rounds, procedures_rounds, program_rounds, Jumps, Among, JumpsBackAreRounds}
+use Rattle.semantics.specs.WellFormed.{Block, block, module_block, Statement, WellFormedProcedure}
+use Rattle.agreement.specs.Generator.{plain, at_place, constant_code, load, store, load_element, store_element, unary_operation, binary_operation, further, expr_end, args_end, target_end, fetch_end, raise_end, update_end, stat_end, procedure_end, first, module_start, expr_code, args_code, target_code, fetch_code, raise_code, keep_code, update_code, first_test, stat_code, closing, procedure_code, procedures_code, generate}
+use Rattle.agreement.specs.Jumps.{next_rounds, procedures_rounds, Jumps, Among, JumpsBackAreRounds}
 use Rattle.agreement.proofs.Positions.{adv, adv_e, adv_a, adv_t, adv_f, adv_r, adv_u, adv_s, adv_p, adv_ps, up_e, up_s, up_ps}
 
 -- a property of each instruction and its index, from p on

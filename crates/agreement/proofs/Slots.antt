@@ -1,5 +1,5 @@
 -- The two hidden words of a FOR, behind an activation's own words and those of the FORs around it.
-use Rattle.std.proofs.Common.{◌≡◌, ℕ, zero, suc, ◌+◌, ◌<◌, List, [], ◌∷◌, ◌++◌, length, get_or, set, ℤ, pos, sym, refl, ap, ◌∙◌, append_assoc, suc-add, arith, length-append}
+use Rattle.std.proofs.Common.{◌≡◌, ℕ, suc, ◌+◌, ◌<◌, List, [], ◌∷◌, ◌++◌, length, get_or, set, ℤ, pos, ap, ◌∙◌, append_assoc, suc-add, arith, length-append}
 
 module _ (ks : List ℤ) (a b : ℤ) (r : List ℤ) where
   pub slots_open : (ks ++ (a ∷ b ∷ [])) ++ r ≡ ks ++ (a ∷ b ∷ r)

@@ -1,26 +1,25 @@
 -- The code of a statement does what the statement means.
-use Rattle.std.proofs.Common.{◌≡◌, ℕ, zero, suc, ◌+◌, ◌-◌, ◌*◌, ◌<◌, ◌≤◌, max, Bool, true, false, cond, T, ltb, List, [], ◌∷◌, ◌++◌, reverse, length, take as first_of, drop, ℤ, pos, ◌+ℤ◌, ◌-ℤ◌, nat_abs, Some, None, Option, sym, refl, ap, ◌∙◌, subst, ap₂, append_assoc, zero-le, le_refl, arith, length-append, length-take}
+use Rattle.std.proofs.Common.{◌≡◌, ℕ, zero, suc, ◌+◌, ◌*◌, ◌<◌, ◌≤◌, Bool, true, false, cond, T, List, [], ◌∷◌, ◌++◌, length, take as first_of, ℤ, pos, ◌+ℤ◌, nat_abs, Some, None, Option, sym, refl, ap, ◌∙◌, subst, zero-le, arith, length-append, length-take}
 use lib.IntN.{+ℤ_comm}
 use lib.Signed.{le_z}
-use Rattle.integer.specs.Ends.{integer, Within, within, kept as kept_in}
+use Rattle.integer.specs.Ends.{integer, Within, kept as kept_in}
 use Rattle.ports.specs.Calls.{oldest}
 use Rattle.ports.specs.Events.{took, set_to}
 use Rattle.instructions.specs.State.{Caller, became}
 use Rattle.instructions.specs.Steps.{step, halted}
 use Rattle.instructions.specs.declared.answers.Status.TheVariants.{Ended}
-use Rattle.instructions.specs.Traps.{trap_number}
 use Rattle.instructions.specs.declared.answers.Outcome.TheVariants as answer
 use Rattle.instructions.specs.declared.instruction.Instruction.{Instruction}
 use Rattle.instructions.specs.declared.operation.Operation.TheVariants as op
-use Rattle.semantics.specs.Program.{BasicType, INTEGER, BOOLEAN, BITSET, Variable, Array, Expr, constant, variable, element, unary, binary, member, both, either, call, Args, none, more, arity, Target, whole, item, Update, increase, decrease, include, exclude, add, subtract, at_most, at_least, Stat, skip, assign, update, take, put, perform, seq, choose, while, repeat, loop, for, exit, return, give, halt, Procedure, Program, procedure}
+use Rattle.semantics.specs.Program.{BasicType, INTEGER, BOOLEAN, BITSET, Variable, Expr, constant, variable, element, unary, binary, member, both, either, call, Args, none, more, arity, Target, whole, item, Update, increase, decrease, include, exclude, add, subtract, at_most, at_least, Stat, skip, assign, update, take, put, perform, seq, choose, while, repeat, loop, for, exit, return, give, halt, Program, procedure}
 use Rattle.semantics.specs.Values.{Value, truth, fails, binary_answer, updated, update_trap, is_channel, terms}
-use Rattle.semantics.specs.State.{State, Outcome, ended, trap, waits, Res, done, stopped, Flow, falls, exits, returns, gives, bind, read, store as stored, behind, tick, round, happened, leave}
-use Rattle.semantics.specs.Meaning.{Rec, branch, checked, revised, received, onward, around, openable, for_rounds, eval_with, args_with, target_with, exec_with, exec}
-use Rattle.semantics.specs.Extent.{depth, args_depth, for_depth}
+use Rattle.semantics.specs.State.{State, Res, done, Flow, falls, exits, returns, gives, bind, read, store as stored, tick, round, leave}
+use Rattle.semantics.specs.Meaning.{Rec, branch, checked, revised, received, onward, around, openable, for_rounds, eval_with, exec_with, exec}
+use Rattle.semantics.specs.Extent.{args_depth, for_depth}
 use Rattle.semantics.specs.WellFormed.{Block, BlockKind, in_module, in_procedure, in_function, kind_of, block, Holds, changes, WellTyped, Arguments, Fits, Stores, Returns, Gives, Statement, WellFormedProcedure}
 use Rattle.agreement.specs.Claims.{spare}
-use Rattle.agreement.specs.Generator.{plain, at_place, constant_code, store, first_test, call_code, closing, first, entry, further, expr_end, args_end, target_end, fetch_end, raise_end, update_end, stat_end, expr_code, args_code, target_code, fetch_code, raise_code, update_code, keep_code, stat_code}
-use Rattle.agreement.proofs.Traced.{Traced, Mark, turned, passed, Goes, Steps, here, go, join, Thin, th_event, After, lands, stops, goes_on, step_in, prepend, pay, onto, bind_l}
+use Rattle.agreement.specs.Generator.{plain, at_place, constant_code, store, first_test, closing, first, entry, further, expr_end, args_end, target_end, fetch_end, raise_end, update_end, stat_end, expr_code, fetch_code, raise_code, update_code, keep_code, stat_code}
+use Rattle.agreement.proofs.Traced.{Traced, Mark, turned, passed, Goes, Steps, here, go, After, lands, stops, goes_on, step_in, prepend, pay, onto, bind_l}
 use Rattle.agreement.proofs.Executing.{At, memory, seen, traced, ahead, back, next, obeys_local, obeys_store_local, obeys_channel, fails_channel, obeys_jump, obeys_jump_if, obeys_stay_if, obeys_jump_unless, obeys_stay_unless}
 use Rattle.agreement.proofs.Operators.{obeys_binary, fails_binary, obeys_include, obeys_exclude, fails_include, fails_exclude, obeys_copy, obeys_swap, obeys_advance}
 use Rattle.agreement.proofs.Calling.{receives, awaits, sets_to, closes, closes_with, ends_run}
@@ -31,9 +30,9 @@ use Rattle.instructions.specs.Values.{goes_on as advances, following}
 use Rattle.semantics.proofs.Answering.{update_value}
 use Rattle.agreement.proofs.Encoding.{answered_with, test_within}
 use Rattle.agreement.proofs.Positions.{Has, has_e, has_a, has_t, has_f, has_r, has_u, has_s, up_e, up_s}
-use Rattle.agreement.proofs.Operands.{need, args_need, target_need, need_some, Small, SmallArgs, need_enough, args_enough}
-use Rattle.agreement.proofs.Matching.{mk, loads_constant, locals_length, Good, Ground, Inside, Owes, owes_more, room, g_round, g_turn, g_lose, g_store, g_event, read_value, sample_value, loads, loads_element, stores, stores_element, trapped}
-use Rattle.agreement.proofs.Expressions.{Linked, SimS, Simulated, land_s, good_s, returned, Given, aimed, Aims, sim_e, sim_a, sim_t, unless, do_call, ground, waiting, back_in, left_is, left_good, closing_at, arguments_length}
+use Rattle.agreement.proofs.Operands.{need, args_need, target_need, Small, SmallArgs, need_enough, args_enough}
+use Rattle.agreement.proofs.Matching.{mk, loads_constant, locals_length, Good, Ground, Inside, Owes, owes_more, room, g_round, g_turn, g_lose, g_store, g_event, sample_value, loads, loads_element, stores, stores_element, trapped}
+use Rattle.agreement.proofs.Expressions.{Linked, SimS, Simulated, land_s, good_s, returned, Given, aimed, Aims, sim_e, sim_a, sim_t, unless, do_call, waiting, left_is, left_good, closing_at, arguments_length}
 
 -- calls have at most 6 arguments
 module _ (P : Program) (B : Block) (formed : (g : ℕ) → g < length P.procedures → WellFormedProcedure P (procedure P g)) where
@@ -425,8 +424,8 @@ module _ (P : Program) (c : List Instruction) (lk : Linked P c) (rec : Rec) (n :
   until : {A X : Type 0} {G : A → State → X → Type 0} {L : A → State → X → Traced} {p q : ℕ} {v : ℤ} {t : List Mark} {r r₁ : Res A} (hid : List ℤ) (σ : State)
       → At c q (plain op.JumpUnless p) → p ≤ q → After P n G L (mk P c cs hid p [] σ (turned ∷ t)) r → After P (suc n) G L (mk P c cs hid (suc q) [] σ t) r₁
       → (b : Bool) → fails v ≡ b → After P (suc n) G L (mk P c cs hid q (v ∷ []) σ t) (branch b r r₁)
-  until hid σ h le a a₁ true e = pay (back h (obeys_jump_unless e) le) a
-  until hid σ h le a a₁ false e = step_in (next h (obeys_stay_unless e)) a₁
+  until hs σ h le a a₁ true e = pay (back h (obeys_jump_unless e) le) a
+  until hs σ h le a a₁ false e = step_in (next h (obeys_stay_unless e)) a₁
 
   -- every statement, with one unit of fuel more
   sim_s : (l : Bool) (d x : ℕ) (s : Stat) → Statement P B l s → (p : ℕ) → Has c p (stat_code P (length B.words) d x s p) → (T l → stat_end s p ≤ x) → SimS P B cs below c (exec_with P rec) (suc n) l d x s p

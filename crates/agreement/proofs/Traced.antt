@@ -1,11 +1,11 @@
 -- The machine of the table with a trail of what it has done, and how its runs compose.
-use Rattle.std.proofs.Common.{◌≡◌, ℕ, zero, suc, ◌+◌, ◌*◌, ◌≤◌, cond, eqb, ltb, List, [], ◌∷◌, ◌++◌, length, get_or, ℤ, pos, Some, Option, refl, suc-le-suc, le_trans, le_refl, arith}
+use Rattle.std.proofs.Common.{◌≡◌, ℕ, suc, ◌≤◌, cond, eqb, ltb, List, [], ◌∷◌, ◌++◌, length, get_or, pos, Some, suc-le-suc, le_trans, le_refl, arith}
 use Rattle.ports.specs.Events.{Event}
 use Rattle.instructions.specs.State.{State as Memory}
-use Rattle.instructions.specs.Steps.{View, Move, gone, did, halted, step}
+use Rattle.instructions.specs.Steps.{View, gone, did, halted, step}
 use Rattle.instructions.specs.declared.answers.Outcome.{Outcome as Answer}
 use Rattle.semantics.specs.Program.{Program}
-use Rattle.semantics.specs.State.{State, Tick, round, activation, event, Outcome, Res, done, stopped, out, bind, zeros}
+use Rattle.semantics.specs.State.{State, Tick, round, activation, event, Outcome, Res, done, stopped, out, bind}
 use Rattle.agreement.specs.Claims.{outcome, spare}
 
 -- an executed instruction that goes to the same or a lower index, opens an activation or closes one; or that is an event

@@ -1,15 +1,14 @@
 -- From the code's parts to whole runs of a board.
-use Rattle.std.proofs.Common.{◌≡◌, ℕ, zero, suc, ◌+◌, ◌-◌, ◌*◌, ◌<◌, ◌≤◌, Bool, true, false, cond, T, eqb, ltb, ◌⊎◌, List, [], ◌∷◌, ◌++◌, length, get_or, take, ℤ, pos, Some, None, Ok, Err, Option, Result, sym, refl, ap, ◌∙◌, subst, ap₂, inl, inr, ⊎_elim, append_assoc, append-nil, le_trans, le_refl, add-zero, add_assoc, add-suc, suc-add, zero-add, arith, length-append}
+use Rattle.std.proofs.Common.{◌≡◌, ℕ, zero, suc, ◌+◌, ◌-◌, ◌*◌, ◌<◌, ◌≤◌, Bool, true, false, cond, eqb, ltb, ◌⊎◌, List, [], ◌∷◌, ◌++◌, length, get_or, ℤ, pos, Some, None, Ok, Err, Option, sym, refl, ap, ◌∙◌, subst, inl, inr, ⊎_elim, append_assoc, append-nil, le_trans, le_refl, suc-add, zero-add, arith, length-append}
 use lib.ListN.{length-replicate, replicate-append-replicate}
 use Rattle.std.proofs.lemmas.List.{take_all}
 use Rattle.std.specs.List.{AllByRecursion as All}
-use Rattle.ports.specs.Calls.{take_answer, take_after, set_answer, set_after}
 use Rattle.ports.specs.Channels.{Meaning}
-use Rattle.ports.specs.Events.{Event, took, set_to, left, left_by}
+use Rattle.ports.specs.Events.{Event, left, left_by}
 use Rattle.ports.specs.Law.{Lawful}
-use Rattle.instructions.specs.State.{State as Memory, start, became}
-use Rattle.instructions.specs.Steps.{View, Move, gone, did, halted, step, Run, run, more as more_run, onward, nothing, spent, loaded, Effect, went, takes, sets, breaks, stops as stops_effect, met, stepped, going, took_or_waits, set_or_not}
-use Rattle.instructions.specs.Laws.{turn, turned as turned_by, turns, Call, go as go_on, total}
+use Rattle.instructions.specs.State.{State as Memory, start}
+use Rattle.instructions.specs.Steps.{View, Move, gone, did, halted, step, run, onward, spent, loaded, Effect, went, takes, sets, breaks, stops as stops_effect, met, stepped, going, took_or_waits, set_or_not}
+use Rattle.instructions.specs.Laws.{turn, turned as turned_by, turns, go as go_on}
 use Rattle.instructions.proofs.Composing.{runs_compose}
 use Rattle.instructions.proofs.Bounding.{turns_bound}
 use Rattle.instructions.specs.declared.answers.Outcome.{Outcome as Answer}
@@ -17,20 +16,20 @@ use Rattle.instructions.specs.declared.answers.Outcome.TheVariants as answer
 use Rattle.instructions.specs.declared.answers.Status.{Status}
 use Rattle.instructions.specs.declared.answers.Status.TheVariants.{Running, Ended, Trapped, Broken}
 use Rattle.instructions.specs.declared.instruction.Instruction.{Instruction}
-use Rattle.semantics.specs.Program.{Procedure, Program, procedure, missing}
-use Rattle.semantics.specs.State.{State, Tick, round, activation, event, Outcome, ended, Res, done, stopped, out, Flow, falls, exits, returns, gives, begin, zeros, trace_of, events, rounds, activations}
+use Rattle.semantics.specs.Program.{Procedure, Program, missing}
+use Rattle.semantics.specs.State.{State, Tick, event, Outcome, Res, stopped, out, Flow, falls, exits, returns, gives, begin, zeros, trace_of, events, rounds, activations}
 use Rattle.semantics.specs.Meaning.{exec, concluded, reading}
 use Rattle.semantics.specs.Extent.{for_depth}
 use Rattle.semantics.specs.WellFormed.{module_block, WellFormed, WellFormedProcedure}
 use Rattle.semantics.specs.Laws.{Opens, shown}
 use Rattle.semantics.proofs.Wording.{zeros_valued}
-use Rattle.agreement.specs.Generator.{plain, first, module_start, stat_end, generate}
+use Rattle.agreement.specs.Generator.{first, module_start, stat_end, generate}
 use Rattle.agreement.specs.Claims.{outcome, spare, after, CodeFits, NeverBroken, EventsAgree, OutcomesAgree, OutcomesAreReached, OutcomesAreBounded, EventsAreBounded}
 use Rattle.agreement.proofs.Traced.{Traced, Mark, turned, passed, marks, Goes, executes, passes, Steps, here, go, len, join, Thin, th_nil, th_event, th_round, th_open, th_turn, th_lose, Final, After, lands, stops, goes_on, len_join}
 use Rattle.agreement.proofs.Executing.{memory, seen, traced, ahead, next, obeys_jump, obeys_enter}
 use Rattle.agreement.proofs.Calling.{ends_run}
-use Rattle.agreement.proofs.Positions.{Laid, laid, has_procedure, entry_before, up_ps, up_s}
-use Rattle.agreement.proofs.Matching.{mk, Good, Ground}
+use Rattle.agreement.proofs.Positions.{laid, has_procedure, entry_before, up_ps, up_s}
+use Rattle.agreement.proofs.Matching.{mk, Good}
 use Rattle.agreement.proofs.Expressions.{Linked, good_s, land_s}
 use Rattle.agreement.proofs.Statements.{simulated}
 

@@ -1,5 +1,5 @@
 -- What the code of a program does on a board, in terms of what the program means.
-use Rattle.std.specs.Prelude.{◌≡◌, ℕ, ◌+◌, ◌-◌, ◌*◌, ◌<◌, ◌≤◌, List, [], ◌∷◌, ◌++◌, length, ℤ, Some, None, Option, ◌≢◌}
+use Rattle.std.specs.Prelude.{◌≡◌, ℕ, ◌+◌, ◌-◌, ◌*◌, ◌≤◌, List, ◌∷◌, ◌++◌, length, ℤ, Some, None, Option, ◌≢◌}
 use Rattle.ports.specs.Channels.{Meaning}
 use Rattle.ports.specs.Events.{Event, left_by}
 use Rattle.ports.specs.Law.{Lawful}
@@ -9,7 +9,7 @@ use Rattle.instructions.specs.Traps.{trap_number}
 use Rattle.instructions.specs.declared.answers.Outcome.{Outcome as Answer}
 use Rattle.instructions.specs.declared.answers.Outcome.TheVariants as answer
 use Rattle.semantics.specs.Program.{Program}
-use Rattle.semantics.specs.State.{State, Tick, event, Outcome, ended, trap, waits, Res, stopped, trace_of, events, rounds, activations, zeros}
+use Rattle.semantics.specs.State.{State, Tick, event, Outcome, ended, trap, waits, stopped, trace_of, events, rounds, activations, zeros}
 use Rattle.semantics.specs.Meaning.{reading}
 use Rattle.semantics.specs.Extent.{program_symbols}
 use Rattle.semantics.specs.WellFormed.{WellFormed}

@@ -1,5 +1,5 @@
 -- Which jumps of a program's code go back: those for a loop's next round, and no others.
-use Rattle.std.specs.Prelude.{◌≡◌, ℕ, suc, ◌<◌, ◌≤◌, ◌⊎◌, List, [], ◌∷◌, ◌++◌, length, get_or, slice_index_or}
+use Rattle.std.specs.Prelude.{◌≡◌, ℕ, suc, ◌<◌, ◌≤◌, ◌⊎◌, List, [], ◌∷◌, ◌++◌, length, slice_index_or}
 use Rattle.instructions.specs.Steps.{none}
 use Rattle.instructions.specs.declared.instruction.Instruction.{Instruction}
 use Rattle.instructions.specs.declared.operation.Operation.TheVariants as op
@@ -47,5 +47,5 @@ Among n (x ∷ xs) = (n ≡ x) ⊎ Among n xs
 -- a jump to the same or a lower index is one for a loop's next round
 abbrev pub JumpsBackAreRounds : Type 0
 JumpsBackAreRounds =
-    (P : Program) → WellFormed P → (i : ℕ) → i < length (generate P) → Jumps (slice_index_or (generate P) i none) → (get_or (generate P) i none).operand ≤ i
+    (P : Program) → WellFormed P → (i : ℕ) → i < length (generate P) → Jumps (slice_index_or (generate P) i none) → (slice_index_or (generate P) i none).operand ≤ i
     → Among i (program_rounds P)

@@ -4,9 +4,9 @@ use Rattle.std.specs.Prelude.{ℕ, zero, suc, Bool, true, false, List, [], ◌�
 use Rattle.ports.specs.Calls.{oldest}
 use Rattle.ports.specs.Channels.{Meaning}
 use Rattle.ports.specs.Events.{took, set_to}
-use Rattle.semantics.specs.Program.{Variable, Array, Expr, constant, variable, element, unary, binary, member, both, either, call, Args, none, more, Target, whole, item, Update, Stat, skip, assign, update, take, put, perform, seq, choose, while, repeat, loop, for, exit, return, give, halt, Procedure, Program, procedure}
+use Rattle.semantics.specs.Program.{Variable, Array, Expr, constant, variable, element, unary, binary, member, both, either, call, Args, none, more, Target, whole, item, Stat, skip, assign, update, take, put, perform, seq, choose, while, repeat, loop, for, exit, return, give, halt, Procedure, Program, procedure}
 use Rattle.semantics.specs.Values.{fails, unary_answer, binary_answer, binary_trap, updated, update_trap, is_element, contained, is_channel, position, terms}
-use Rattle.semantics.specs.State.{State, Outcome, ended, trap, waits, Res, done, stopped, out, Flow, falls, exits, returns, gives, bind, read, store, behind, tick, round, happened, enter, leave, begin}
+use Rattle.semantics.specs.State.{State, ended, trap, waits, Res, done, stopped, out, Flow, falls, exits, returns, gives, bind, read, store, behind, tick, round, happened, enter, leave, begin}
 
 -- the first of two ways where the test holds, else the second
 abbrev pub branch : {A : Type 0} → Bool → Res A → Res A → Res A

@@ -1,6 +1,6 @@
 -- A resolved program: names are gone. A variable is found by where it lives, a constant is its value, an operator has its
 -- type, a call names a procedure by its number, and every part that can trap, wait, call or be an event keeps its place.
-use Rattle.std.specs.Prelude.{ℕ, suc, List, [], ◌∷◌, ℤ, None, Option, slice_index_or}
+use Rattle.std.specs.Prelude.{ℕ, suc, List, [], ℤ, None, Option, slice_index_or}
 
 -- the types of words
 pub data BasicType : Type 0 where

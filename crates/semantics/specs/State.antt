@@ -1,5 +1,5 @@
 -- What a reading of a program has come to: its words, its port, and what has happened so far.
-use Rattle.std.specs.Prelude.{ℕ, suc, ◌+◌, List, [], ◌∷◌, ◌++◌, length, drop, set, replicate, ℤ, pos, slice_index_or, slice_set}
+use Rattle.std.specs.Prelude.{ℕ, suc, ◌+◌, List, [], ◌∷◌, ◌++◌, length, drop, replicate, ℤ, pos, slice_index_or, slice_set}
 use Rattle.ports.specs.Channels.{Meaning}
 use Rattle.ports.specs.Events.{Event, left}
 use Rattle.semantics.specs.Program.{Variable, global, local, Procedure, Program}

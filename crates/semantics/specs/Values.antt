@@ -1,5 +1,5 @@
 -- Values as words, and what operators answer. FALSE is 0 and TRUE is 1; a set is the sum of 2 ^ i for its elements i.
-use Rattle.std.specs.Prelude.{◌≡◌, ℕ, suc, ◌/◌, Bool, true, false, cond, not, ◌&&◌, ◌⊎◌, ℤ, pos, negsuc, ◌+ℤ◌, ◌-ℤ◌, ◌*ℤ◌, neg_ℤ, Some, None, Option, int_le, int_lt, nat_lt, unsigned_abs}
+use Rattle.std.specs.Prelude.{◌≡◌, ℕ, suc, ◌/◌, Bool, false, cond, not, ◌&&◌, ◌⊎◌, ℤ, pos, negsuc, ◌+ℤ◌, ◌-ℤ◌, ◌*ℤ◌, neg_ℤ, Some, None, Option, int_le, int_lt, nat_lt, unsigned_abs}
 use Rattle.integer.specs.Division.{divided}
 use Rattle.integer.specs.Ends.{Ends, integer, Within, within, kept}
 use Rattle.integer.specs.Sets.{elements, words, has, union_of, intersection_of, difference_of, including, excluding, if_element}

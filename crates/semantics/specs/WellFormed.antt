@@ -1,6 +1,6 @@
 -- Which resolved programs are well formed: every part names what there is, and has the type that is asked for there.
 -- Each clause compares numbers, types or lists of types, so it can be decided.
-use Rattle.std.specs.Prelude.{◌≡◌, ℕ, ◌<◌, ◌≤◌, Bool, true, false, T, List, [], ◌∷◌, length, take, drop, replicate, ℤ, pos, Some, None, Option, ◌≢◌}
+use Rattle.std.specs.Prelude.{◌≡◌, ℕ, ◌<◌, ◌≤◌, Bool, true, false, T, List, [], ◌∷◌, length, take, drop, replicate, pos, Some, None, Option, ◌≢◌}
 use Rattle.std.proofs.Math.Option.{some}
 use Rattle.std.proofs.Math.ListN.{get_elem?}
 use Rattle.std.specs.List.{AllByRecursion as All}
