@@ -30,4 +30,4 @@ returns-in-Err-set g c =
     let v = view g.P.Port.meaning c.args.self.now in
     let x = c.in-Set.v in
     let f : SFits w16 x = search rules in
-    record { gone = ap (λ a. answered a v) c.in-Set.is ∙ unset v c.in-Set.c _ x _ _ c.in-Err-set.ensures.answer c.set-status-in-Err-set.ensures (c.set.ensures.after ∙ ap (set_after v.port c.in-Set.c) (to_z-of_z w16 x f)); lent = c.set.ensures.lent }
+    record { gone = ap (λ a. answered a v) c.in-Set.is ∙ unset v c.in-Set.c _ x _ _ c.in-Err-set.ensures.answer c.set_status-in-Err-set.ensures (c.set.ensures.after ∙ ap (set_after v.port c.in-Set.c) (to_z-of_z w16 x f)); lent = c.set.ensures.lent }

@@ -4,8 +4,8 @@ use Rattle.board.specs.Seen.{view}
 use Rattle.board.proofs.Turning.{within, went_all, event, stopped, turned_out}
 use Rattle.board.proofs.machine.Board.run.Goals as goal
 
-pub overflow-add-executed : goal.overflow-add-executed
-overflow-add-executed g c =
+pub overflow_add-executed : goal.overflow_add-executed
+overflow_add-executed g c =
     let w = within c.args.budget c.loop-executed.executed c.loop-executed.events c.steps-stretch.result.executed c.steps-stretch.result.act _ _ (view g.P.Port.meaning c.args.self.now) _ c.loop-executed.invariant.2 c.loop-executed-test.true c.steps-stretch.ensures.gone in
     search rules
 
@@ -19,8 +19,8 @@ loop-executed-preserved-in-Went g c =
     let w = went_all c.args.budget c.loop-executed.executed c.loop-executed.events c.steps-stretch.result.executed c.steps-stretch.result.act _ _ _ _ c.loop-executed.invariant.2 c.loop-executed-test.true c.steps-stretch.ensures.gone c.in-Went.ensures.gone in
     (omega (arith, c.loop-executed.invariant.0), omega (arith, w.0), w.1, c.meet.ensures.lent ∙ c.loop-executed.invariant.3)
 
-pub overflow-add-executed-in-Event : goal.overflow-add-executed-in-Event
-overflow-add-executed-in-Event g c =
+pub overflow_add-executed-in-Event : goal.overflow_add-executed-in-Event
+overflow_add-executed-in-Event g c =
     let w = event c.args.budget c.loop-executed.executed c.loop-executed.events c.steps-stretch.result.executed c.steps-stretch.result.act _ _ _ _ c.loop-executed.invariant.2 c.loop-executed-test.true c.steps-stretch.ensures.gone c.in-Event.ensures.gone in
     let few = w.0 in
     search rules
@@ -34,4 +34,4 @@ pub returns-in-Stopped : goal.returns-in-Stopped
 returns-in-Stopped g c = record { gone = stopped c.args.budget c.loop-executed.executed c.loop-executed.events c.steps-stretch.result.executed c.steps-stretch.result.act _ _ _ _ c.loop-executed.invariant.2 c.loop-executed-test.true c.steps-stretch.ensures.gone c.in-Stopped.outcome c.in-Stopped.ensures.gone; lent = c.meet.ensures.lent ∙ c.loop-executed.invariant.3 }
 
 pub returns : goal.returns
-returns g c = record { gone = turned_out c.args.budget c.loop-executed.executed c.loop-executed.executed c.loop-executed.events _ _ _ c.loop-executed.invariant.2 c.loop-executed-test.false (c.outcome-of.ensures ∙ ap spent c.status.ensures); lent = c.loop-executed.invariant.3 }
+returns g c = record { gone = turned_out c.args.budget c.loop-executed.executed c.loop-executed.executed c.loop-executed.events _ _ _ c.loop-executed.invariant.2 c.loop-executed-test.false (c.outcome_of.ensures ∙ ap spent c.status.ensures); lent = c.loop-executed.invariant.3 }
