@@ -1,5 +1,5 @@
 -- What every syntax tree of the grammar has: as many parts as its kinds say, and the first place of each expression.
-use Rattle.std.proofs.Common.{◌≡◌, ℕ, suc, ◌+◌, ◌⊎◌, List, [], ◌∷◌, length, sym, refl, ap, ◌∙◌, inl, inr, add-zero}
+use Rattle.std.proofs.Common.{◌≡◌, ℕ, suc, ◌+◌, ◌⊎◌, List, [], ◌∷◌, length, refl, ap, ◌∙◌, inl, inr, add-zero}
 use Rattle.vocabulary.specs.declared.tag.Tag.TheVariants as tag
 use Rattle.lexer.specs.declared.symbol.SymbolRecord.{SymbolRecord}
 use Rattle.grammar.specs.Ebnf.{G, eps, tok, seq, alt, rep, ref, nest, Tree, unit, leaf, pair, left, right, nil, cons, node, under, yield}
@@ -9,8 +9,8 @@ use Rattle.syntax.specs.Symbols.{place_of}
 use Rattle.syntax.specs.Value.{Val, value}
 use Rattle.syntax.specs.Syntax.{Label, Syntax, parts, Shaped, begin}
 use Rattle.syntax.specs.Syntax as syntax
-use Rattle.syntax.specs.Actions.{act, chain, empty, items, names, maybe, behind, result, target, designator, signed, either, arm}
-use Rattle.parser.specs.Parsing.{Begins, ExpressionsBegin}
+use Rattle.syntax.specs.Actions.{act, chain, empty, items, names, maybe, behind, result_type, target, designator, signed, either}
+use Rattle.parser.specs.Parsing.{ExpressionsBegin}
 
 -- of each item
 abbrev Each : {X : Type 0} → (X → Type 0) → List X → Type 0
@@ -61,7 +61,7 @@ module _ (s : List ℕ) (rs : List SymbolRecord) where
   behind_shaped c n (inl p) h = h.1
   behind_shaped c n (inr u) h = refl
 
-  result_shaped : (r : (ℕ × ℕ) ⊎ Unit {0}) → Shaped (result s rs r)
+  result_shaped : (r : (ℕ × ℕ) ⊎ Unit {0}) → Shaped (result_type s rs r)
   result_shaped (inl p) = refl
   result_shaped (inr u) = refl
 

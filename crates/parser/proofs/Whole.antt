@@ -1,6 +1,6 @@
 -- What the records hold in the end, and what a scan leaves.
-use Rattle.std.proofs.Common.{◌≡◌, ℕ, zero, suc, ◌+◌, ◌-◌, ◌*◌, ◌<◌, ◌≤◌, Bool, true, false, cond, ltb, List, [], ◌∷◌, ◌++◌, map, length, get_or, take, drop, replicate, Ok, Err, Result, sym, refl, ap, ◌∙◌, subst, ap₂, append_assoc, arith, length-append, le-ltb}
-use Rattle.std.proofs.lemmas.List.{get_or_at, length-take-le, length-replicate, length-map}
+use Rattle.std.proofs.Common.{◌≡◌, ℕ, suc, ◌+◌, ◌-◌, ◌<◌, ◌≤◌, Bool, true, false, cond, ltb, List, [], ◌∷◌, ◌++◌, map, length, get_or, take, drop, replicate, Ok, Err, Result, sym, refl, ap, ◌∙◌, subst, append_assoc, arith, length-append, le-ltb}
+use Rattle.std.proofs.lemmas.List.{get_or_at, length-replicate, length-map}
 use Rattle.faults.specs.declared.kind.FaultKind.TheVariants.{SourceTooLong}
 use Rattle.faults.specs.declared.kind.Fault.{Fault}
 use Rattle.lexer.specs.declared.symbol.SymbolRecord.{SymbolRecord}
@@ -8,7 +8,6 @@ use Rattle.lexer.specs.Scan.{fault, symbols_of, symbol_limit, byte_limit}
 use Rattle.lexer.specs.Scan as scan
 use Rattle.lexer.specs.Records.{record_of, recorded, stored, scanning, zero_record}
 use Rattle.lexer.specs.Reading.{Lawful}
-use Rattle.parser.specs.declared.answer.Parsed.{Parsed}
 use Rattle.syntax.specs.declared.step.Cursor.{Cursor}
 use Rattle.syntax.specs.declared.tree.TreeRecord.{TreeRecord}
 use Rattle.syntax.specs.Syntax.{Syntax, leaf, unary, binary, size, entry, lay}

@@ -1,5 +1,5 @@
 -- What the parser answers to a source, and what the lent lists then hold.
-use Rattle.std.specs.Prelude.{◌≡◌, ℕ, suc, ◌-◌, ◌*◌, ◌<◌, ◌≤◌, cond, ◌⊎◌, List, [], ◌∷◌, ◌++◌, length, take, drop, replicate, Ok, Err, Result, nat_lt, slice_index_or}
+use Rattle.std.specs.Prelude.{◌≡◌, ℕ, suc, ◌-◌, ◌*◌, ◌<◌, ◌≤◌, cond, ◌⊎◌, List, ◌++◌, length, take, drop, replicate, Ok, Err, Result, nat_lt, slice_index_or}
 use Rattle.faults.specs.declared.kind.FaultKind.TheVariants.{SourceTooLong, ImpossibleSymbol, EnclosedTooDeep}
 use Rattle.faults.specs.declared.kind.Fault.{Fault}
 use Rattle.vocabulary.specs.declared.tag.Tag.TheVariants.{EndOfSource}

@@ -2,7 +2,7 @@ ghost use Rattle.std.specs.Prelude.{◌≡◌, ℕ, ◌⊎◌};
 ghost use Rattle.grammar.specs.Claims.{limit};
 ghost use Rattle.grammar.specs.Ebnf.{seq, rep, opt, ref, alt};
 ghost use Rattle.grammar.specs.Language.{Module, Decl, Proc, Heading, Pars, Body, Const, «Type», n};
-ghost use Rattle.syntax.specs.Actions.{list, items, result, behind, either, name};
+ghost use Rattle.syntax.specs.Actions.{list, items, result_type, behind, either, name};
 ghost use Rattle.syntax.specs.Forms.{comma_name, semicolon_pars, result_part, begin_part, constant_item, constant_of, variable_item, variable_of, linked, array_type, array_of, closes};
 ghost use Rattle.syntax.specs.Post.{Parses, Goes, Extends, Lays};
 
@@ -116,7 +116,7 @@ fn result_type(
     before: Result<Cursor, Stop>,
     tree: &mut [TreeRecord],
 ) -> Result<Cursor, Stop>
-    ensures { (d e : ℕ) → Goes source.now symbols.now d e result_part (λ v. Lays 1 (result source.now symbols.now v)) before tree.old result tree.new }
+    ensures { (d e : ℕ) → Goes source.now symbols.now d e result_part (λ v. Lays 1 (result_type source.now symbols.now v)) before tree.old result tree.new }
 {
     match next(symbols, before) {
         Tag::Colon => name(source, symbols, advance(symbols, before), tree),

@@ -75,12 +75,12 @@ module _ (source : List ℕ) (symbols : List SymbolRecord) where
   behind (inl p) = p.1
   behind (inr u) = empty
 
-  abbrev pub result : ((ℕ × ℕ) ⊎ Unit {0}) → Syntax
-  result (inl p) = name p.1
-  result (inr u) = empty
+  abbrev pub result_type : ((ℕ × ℕ) ⊎ Unit {0}) → Syntax
+  result_type (inl p) = name p.1
+  result_type (inr u) = empty
 
   abbrev pub heading : ((ℕ × (((Syntax × List (ℕ × Syntax)) ⊎ Unit {0}) × (ℕ × ((ℕ × ℕ) ⊎ Unit {0})))) ⊎ Unit {0}) → Syntax
-  heading (inl (o, (ps, (c, r)))) = binary (bare kind.Heading) (separated ps) (result r)
+  heading (inl (o, (ps, (c, r)))) = binary (bare kind.Heading) (separated ps) (result_type r)
   heading (inr u) = binary (bare kind.Heading) empty empty
 
   abbrev pub target : ℕ → (Syntax ⊎ Unit {0}) → Syntax

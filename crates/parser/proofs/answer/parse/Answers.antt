@@ -1,17 +1,13 @@
-use Rattle.std.proofs.Common.{◌≡◌, ℕ, ◌-◌, ◌<◌, ◌≤◌, ◌⊎◌, List, ◌++◌, length, take, drop, replicate, Ok, Err, sym, refl, ap, ◌∙◌, subst, inl, inr, arith, length-append}
+use Rattle.std.proofs.Common.{◌≡◌, ℕ, ◌≤◌, List, length, take, drop, replicate, Ok, Err, sym, refl, ap, ◌∙◌, subst, inl, inr, arith, length-append}
 use Rattle.std.proofs.lemmas.List.{take_at, length-take-le}
 use Rattle.std.proofs.lemmas.Result.{err_from_is_err_and}
-use Rattle.faults.specs.declared.kind.FaultKind.TheVariants.{ImpossibleSymbol, EnclosedTooDeep}
-use Rattle.faults.specs.declared.kind.Fault.{Fault}
 use Rattle.lexer.specs.declared.symbol.SymbolRecord.{SymbolRecord}
 use Rattle.lexer.specs.Records.{zero_record}
-use Rattle.grammar.specs.Claims.{Impossible, TooDeep}
 use Rattle.grammar.proofs.Claimed.{one_tree, one_answer}
 use Rattle.syntax.specs.declared.step.Stop.{Stop}
 use Rattle.syntax.specs.declared.step.Stop.TheVariants as stops
 use Rattle.syntax.specs.declared.tree.TreeRecord.{TreeRecord}
-use Rattle.syntax.specs.Symbols.{tag_codes}
-use Rattle.parser.specs.Parsing.{Parses, Judged, Module, Found, Descends, placed, place_in, zero_node}
+use Rattle.parser.specs.Parsing.{Parses, Judged, Module, Found, Descends, placed, zero_node}
 use Rattle.parser.proofs.Whole.{Scanned, scan_ok, scan_err, finished}
 use Rattle.parser.proofs.Shapes.{expressions_begin}
 use Rattle.parser.proofs.answer.parse.Goals as goal
@@ -32,57 +28,57 @@ stopped : (s : List ℕ) (rs symbols : List SymbolRecord) (t t₁ tree : List Tr
 stopped s rs symbols t t₁ tree (stops.Impossible k) symbols' tree' d a b = (k, inl (refl, d), refl, a, b)
 stopped s rs symbols t t₁ tree (stops.TooDeep k) symbols' tree' d a b = (k, inr (refl, d), refl, a, b)
 
-pub returns-then-symbols-lt-MAX-SYMBOLS : goal.returns-then-symbols-lt-MAX-SYMBOLS
-returns-then-symbols-lt-MAX-SYMBOLS c =
+pub returns-then-symbols-lt-MAX_SYMBOLS : goal.returns-then-symbols-lt-MAX_SYMBOLS
+returns-then-symbols-lt-MAX_SYMBOLS c =
     record {
       short = λ h. (refl, refl, refl);
-      answer = λ h i. absurd (elim c.then-symbols-lt-MAX-SYMBOLS.either [ inl a ↦ omega arith | inr a ↦ let b = a.1 in omega arith ]);
+      answer = λ h i. absurd (elim c.then-symbols-lt-MAX_SYMBOLS.either [ inl a ↦ omega arith | inr a ↦ let b = a.1 in omega arith ]);
       unique = one_tree;
       one = one_answer;
       begins = expressions_begin;
     }
 
-pub returns-in-err-count : goal.returns-in-err-count
-returns-in-err-count c =
-    let p = err_from_is_err_and c.from-residual.result c.from-residual.ensures.1 in
-    let h₀ = c.if-symbols-lt-MAX-SYMBOLS.false in
-    let h₁ = c.if-tree-lt-MAX-RECORDS.false in
-    let q = scan_err c.args.source.now c.args.symbols.now c.scan.new.records _ (omega arith) c.in-err-count.ensures.answer in
+pub returns-in_err-count : goal.returns-in_err-count
+returns-in_err-count c =
+    let p = err_from_is_err_and c.from_residual.result c.from_residual.ensures.1 in
+    let h₀ = c.if-symbols-lt-MAX_SYMBOLS.false in
+    let h₁ = c.if-tree-lt-MAX_RECORDS.false in
+    let q = scan_err c.args.source.now c.args.symbols.now c.scan.new.records _ (omega arith) c.in_err-count.ensures.answer in
     rw (p.1, p.2) (record {
       short = λ h. absurd (elim h [ inl a ↦ omega arith | inr a ↦ omega arith ]);
-      answer = λ h i. subst (λ l. Parses c.args.source.now c.args.symbols.now c.args.tree.now l (Err c.in-err-count.field-0.0) c.scan.new.records c.clear.new.tree) (sym q.0) (refl, q.1, c.clear.ensures);
+      answer = λ h i. subst (λ l. Parses c.args.source.now c.args.symbols.now c.args.tree.now l (Err c.in_err-count.field-0.0) c.scan.new.records c.clear.new.tree) (sym q.0) (refl, q.1, c.clear.ensures);
       unique = one_tree;
       one = one_answer;
       begins = expressions_begin;
     })
 
-pub slice-bounds-whole-end : goal.slice-bounds-whole-end
-slice-bounds-whole-end c =
-    let h₀ = c.if-symbols-lt-MAX-SYMBOLS.false in
-    as_many (scan_ok c.args.source.now c.args.symbols.now c.scan.new.records c.in-ok-count.count c.in-ok-count.ensures.law (omega arith) c.in-ok-count.ensures.answer)
+pub slice_bounds-whole-end : goal.slice_bounds-whole-end
+slice_bounds-whole-end c =
+    let h₀ = c.if-symbols-lt-MAX_SYMBOLS.false in
+    as_many (scan_ok c.args.source.now c.args.symbols.now c.scan.new.records c.in_ok-count.count c.in_ok-count.ensures.law (omega arith) c.in_ok-count.ensures.answer)
 
-pub slice-bounds-whole-end-2 : goal.slice-bounds-whole-end-2
-slice-bounds-whole-end-2 c =
-    let h₀ = c.if-symbols-lt-MAX-SYMBOLS.false in
-    let z = scan_ok c.args.source.now c.args.symbols.now c.scan.new.records c.in-ok-count.count c.in-ok-count.ensures.law (omega arith) c.in-ok-count.ensures.answer in
-    sym (length-take-le c.in-ok-count.count c.scan.new.records (as_many z))
+pub slice_bounds-whole-end-2 : goal.slice_bounds-whole-end-2
+slice_bounds-whole-end-2 c =
+    let h₀ = c.if-symbols-lt-MAX_SYMBOLS.false in
+    let z = scan_ok c.args.source.now c.args.symbols.now c.scan.new.records c.in_ok-count.count c.in_ok-count.ensures.law (omega arith) c.in_ok-count.ensures.answer in
+    sym (length-take-le c.in_ok-count.count c.scan.new.records (as_many z))
 
-pub slice-bounds-fault-at-end : goal.slice-bounds-fault-at-end
-slice-bounds-fault-at-end c =
-    let h₀ = c.if-symbols-lt-MAX-SYMBOLS.false in
-    as_many (scan_ok c.args.source.now c.args.symbols.now c.scan.new.records c.in-ok-count.count c.in-ok-count.ensures.law (omega arith) c.in-ok-count.ensures.answer)
+pub slice_bounds-fault_at-end : goal.slice_bounds-fault_at-end
+slice_bounds-fault_at-end c =
+    let h₀ = c.if-symbols-lt-MAX_SYMBOLS.false in
+    as_many (scan_ok c.args.source.now c.args.symbols.now c.scan.new.records c.in_ok-count.count c.in_ok-count.ensures.law (omega arith) c.in_ok-count.ensures.answer)
 
-pub slice-bounds-fault-at-end-in-Err : goal.slice-bounds-fault-at-end-in-Err
-slice-bounds-fault-at-end-in-Err c =
-    let h₀ = c.if-symbols-lt-MAX-SYMBOLS.false in
-    let z = scan_ok c.args.source.now c.args.symbols.now c.scan.new.records c.in-ok-count.count c.in-ok-count.ensures.law (omega arith) c.in-ok-count.ensures.answer in
-    sym (length-take-le c.in-ok-count.count c.scan.new.records (as_many z))
+pub slice_bounds-fault_at-end-in-Err : goal.slice_bounds-fault_at-end-in-Err
+slice_bounds-fault_at-end-in-Err c =
+    let h₀ = c.if-symbols-lt-MAX_SYMBOLS.false in
+    let z = scan_ok c.args.source.now c.args.symbols.now c.scan.new.records c.in_ok-count.count c.in_ok-count.ensures.law (omega arith) c.in_ok-count.ensures.answer in
+    sym (length-take-le c.in_ok-count.count c.scan.new.records (as_many z))
 
-pub clear-from-requires : goal.clear-from-requires
-clear-from-requires c =
-    let h₀ = c.if-symbols-lt-MAX-SYMBOLS.false in
-    let h₁ = c.if-tree-lt-MAX-RECORDS.false in
-    let z = scan_ok c.args.source.now c.args.symbols.now c.scan.new.records c.in-ok-count.count c.in-ok-count.ensures.law (omega arith) c.in-ok-count.ensures.answer in
+pub clear_from-requires : goal.clear_from-requires
+clear_from-requires c =
+    let h₀ = c.if-symbols-lt-MAX_SYMBOLS.false in
+    let h₁ = c.if-tree-lt-MAX_RECORDS.false in
+    let z = scan_ok c.args.source.now c.args.symbols.now c.scan.new.records c.in_ok-count.count c.in_ok-count.ensures.law (omega arith) c.in_ok-count.ensures.answer in
     let f = subst (λ x. Found c.args.source.now x c.in-Ok.end c.whole.new.tree) (in_front z) c.in-Ok.ensures in
     let k = f.few in
     let m = z.few in
@@ -93,17 +89,17 @@ clear-from-requires c =
 pub returns-in-Ok : goal.returns-in-Ok
 returns-in-Ok c =
     let s = c.args.source.now in
-    let h₀ = c.if-symbols-lt-MAX-SYMBOLS.false in
-    let h₁ = c.if-tree-lt-MAX-RECORDS.false in
-    let z = scan_ok c.args.source.now c.args.symbols.now c.scan.new.records c.in-ok-count.count c.in-ok-count.ensures.law (omega arith) c.in-ok-count.ensures.answer in
+    let h₀ = c.if-symbols-lt-MAX_SYMBOLS.false in
+    let h₁ = c.if-tree-lt-MAX_RECORDS.false in
+    let z = scan_ok c.args.source.now c.args.symbols.now c.scan.new.records c.in_ok-count.count c.in_ok-count.ensures.law (omega arith) c.in_ok-count.ensures.answer in
     let f = subst (λ x. Found c.args.source.now x c.in-Ok.end c.whole.new.tree) (in_front z) c.in-Ok.ensures in
     let l₀ = c.whole.auto.tree in
     let l₁ = c.clear.auto.tree in
-    let m = subst (λ x. Module c.args.source.now z.rs (record { root = x; records = c.in-Ok.end.used }) c.clear-from.new.tree) (sym c.saturating-sub.ensures)
-    (finished c.args.source.now z.rs c.in-Ok.end c.whole.new.tree c.clear-from.new.tree f z.few (omega arith) c.clear-from.ensures) in
+    let m = subst (λ x. Module c.args.source.now z.rs (record { root = x; records = c.in-Ok.end.used }) c.clear_from.new.tree) (sym c.saturating_sub.ensures)
+    (finished c.args.source.now z.rs c.in-Ok.end c.whole.new.tree c.clear_from.new.tree f z.few (omega arith) c.clear_from.ensures) in
     record {
       short = λ h. absurd (elim h [ inl a ↦ omega arith | inr a ↦ omega arith ]);
-      answer = λ h i. subst (λ l. Parses c.args.source.now c.args.symbols.now c.args.tree.now l (Ok (record { root = c.saturating-sub.result; records = c.in-Ok.end.used })) c.scan.new.records c.clear-from.new.tree) (sym z.is) (m, z.list);
+      answer = λ h i. subst (λ l. Parses c.args.source.now c.args.symbols.now c.args.tree.now l (Ok (record { root = c.saturating_sub.result; records = c.in-Ok.end.used })) c.scan.new.records c.clear_from.new.tree) (sym z.is) (m, z.list);
       unique = one_tree;
       one = one_answer;
       begins = expressions_begin;
@@ -111,9 +107,9 @@ returns-in-Ok c =
 
 pub returns-in-Err : goal.returns-in-Err
 returns-in-Err c =
-    let h₀ = c.if-symbols-lt-MAX-SYMBOLS.false in
-    let h₁ = c.if-tree-lt-MAX-RECORDS.false in
-    let z = scan_ok c.args.source.now c.args.symbols.now c.scan.new.records c.in-ok-count.count c.in-ok-count.ensures.law (omega arith) c.in-ok-count.ensures.answer in
+    let h₀ = c.if-symbols-lt-MAX_SYMBOLS.false in
+    let h₁ = c.if-tree-lt-MAX_RECORDS.false in
+    let z = scan_ok c.args.source.now c.args.symbols.now c.scan.new.records c.in_ok-count.count c.in_ok-count.ensures.law (omega arith) c.in_ok-count.ensures.answer in
     let d = subst (λ x. Descends c.args.source.now x c.clear.new.tree (Err c.in-Err.stop) c.whole.new.tree) (in_front z) c.in-Err.ensures in
     let l₀ = c.whole.auto.tree in
     let l₁ = c.clear.auto.tree in
@@ -123,7 +119,7 @@ returns-in-Err c =
     let j = stopped c.args.source.now z.rs c.args.symbols.now c.clear.new.tree c.whole.new.tree c.args.tree.now c.in-Err.stop c.refused.new.symbols c.refused.new.tree d
     (c.refused.ensures.symbols ∙ ap (λ n. replicate n zero_record) b) (c.refused.ensures.tree ∙ ap (λ n. replicate n zero_node) a) in
     let e : c.refused.result ≡ Err (placed c.args.source.now z.rs c.in-Err.stop) =
-    c.refused.ensures.answer ∙ ap Err (c.fault-at-fault.ensures ∙ ap (λ x. placed c.args.source.now x c.in-Err.stop) (in_front z)) in
+    c.refused.ensures.answer ∙ ap Err (c.fault_at-fault.ensures ∙ ap (λ x. placed c.args.source.now x c.in-Err.stop) (in_front z)) in
     record {
       short = λ h. absurd (elim h [ inl x ↦ omega arith | inr x ↦ omega arith ]);
       answer = λ h i. subst (λ l. Parses c.args.source.now c.args.symbols.now c.args.tree.now l c.refused.result c.refused.new.symbols c.refused.new.tree) (sym z.is)

@@ -1,4 +1,4 @@
-use Rattle.std.proofs.Common.{◌≡◌, ℕ, ◌+◌, List, [], length, drop, Ok, Err, sym, refl, ap, ◌∙◌, subst, arith}
+use Rattle.std.proofs.Common.{ℕ, List, Ok, Err, sym, ap, ◌∙◌, subst, arith}
 use Rattle.std.proofs.lemmas.List.{drop_all}
 use Rattle.lexer.specs.declared.symbol.SymbolRecord.{SymbolRecord}
 use Rattle.grammar.specs.Ebnf.{ref}
@@ -7,14 +7,13 @@ use Rattle.grammar.specs.Language.{Module, rule}
 use Rattle.grammar.specs.Sets.{firsts, nulls}
 use Rattle.grammar.specs.Claims.{limit}
 use Rattle.grammar.proofs.Claimed.{reader_right}
-use Rattle.syntax.specs.declared.step.Cursor.{Cursor}
 use Rattle.syntax.specs.declared.step.Stop.{Stop}
 use Rattle.syntax.specs.declared.step.Stop.TheVariants as stops
 use Rattle.syntax.specs.declared.tree.TreeRecord.{TreeRecord}
 use Rattle.syntax.specs.Symbols.{tag_codes}
-use Rattle.syntax.specs.Syntax.{Syntax, size, lay}
+use Rattle.syntax.specs.Syntax.{size, lay}
 use Rattle.syntax.specs.Post.{Lays, Goes}
-use Rattle.parser.specs.Parsing.{Descends, syntax_of}
+use Rattle.parser.specs.Parsing.{Descends}
 use Rattle.syntax.proofs.Tags.{tags_long}
 use Rattle.parser.proofs.answer.whole.Goals as goal
 

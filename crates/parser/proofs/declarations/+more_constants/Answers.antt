@@ -1,22 +1,14 @@
-use Rattle.std.proofs.Common.{◌≡◌, ℕ, suc, ◌+◌, ◌-◌, ◌*◌, ◌<◌, ◌≤◌, true, false, not, T, ◌⊎◌, List, [], ◌∷◌, length, sym, refl, ap, ◌∙◌, subst, ap₂, inl, inr, arith, rules}
+use Rattle.std.proofs.Common.{◌≡◌, ◌<◌, [], ◌∷◌, sym, refl, ap, ◌∙◌, arith, rules}
 use Rattle.grammar.specs.Codes.{code}
-use Rattle.grammar.specs.Ebnf.{mem}
-use Rattle.grammar.specs.Sets.{firsts}
-use Rattle.grammar.specs.Language.{Elem, Range, Set, Index, Args, Module, Decl, Proc, Heading, Pars, Body, Const, «Type», Action, Stats, Stat, If, While, Repeat, Loop, Return, For, Control, Expr, Sum, Term, Factor}
-use Rattle.vocabulary.specs.declared.tag.Tag.TheVariants.{EndOfSource}
-use Rattle.syntax.specs.declared.tree.NodeKind.TheVariants as kind
-use Rattle.syntax.specs.Symbols.{tag_codes, next_code, next_place, place_of, tag_at, next_tag, number_at, word_length, last_root, remaining}
-use Rattle.syntax.specs.Syntax.{Syntax, leaf, unary, binary, label, entry}
-use Rattle.syntax.specs.Actions.{act, items, list, operators, signed, maybe, behind, chain, arm, result, name, names, either, at, named}
-use Rattle.syntax.specs.Post.{Passed, Taken, Lays, Extends}
-use Rattle.syntax.proofs.Goes.{On, Off, on_by, off_by, goes_on, goes_expect, goes_seq, goes_inl, goes_inr, goes_none, goes_nil, goes_cons, goes_push, goes_map, goes_node, goes_left, goes_right, goes_wrong, goes_out, goes_deep, goes_full, goes_within, goes_around, goes_falls, goes_shrinks, goes_keeps, on_falls, tok_falls, goes_skip, goes_turn, on_class, off_class}
-use Rattle.syntax.proofs.Lays.{lays_as, leaf_lays, unary_lays, binary_lays, passed_both, extends_none, extends_join, extends_by, lays_more, lays_passed, lays_close, lays_spend, lays_paid, lays_lift, laid_binary, laid_passed, extends_both, extends_unary, extends_laid, leaf_adds, passed_none, entry_same}
-use Rattle.syntax.specs.Forms.{linked, constant_of, variable_of, array_of, closes, selected, targeted, assigned, number_of, relations, additions, multiplications, signs}
-use Rattle.lexer.specs.declared.symbol.SymbolRecord.{SymbolRecord}
+use Rattle.syntax.specs.Symbols.{tag_codes, next_place, place_of, word_length, last_root, remaining}
+use Rattle.syntax.specs.Actions.{list}
+use Rattle.syntax.proofs.Goes.{On, on_by, off_by, goes_on, goes_expect, goes_seq, goes_nil, goes_cons, goes_push, goes_map, goes_falls}
+use Rattle.syntax.proofs.Lays.{unary_lays, extends_none, extends_join, extends_by, entry_same}
+use Rattle.syntax.specs.Forms.{constant_of}
 use Rattle.parser.proofs.declarations.+more_constants.Goals as goal
 
-pub more-constants-requires : goal.more-constants-requires
-more-constants-requires t c =
+pub more_constants-requires : goal.more_constants-requires
+more_constants-requires t c =
     let s = c.args.source.now in
     let rs = c.args.symbols.now in
     let o : On (tag_codes rs) c.args.before (41 ∷ []) = on_by 41 c.in-Identifier.ensures.coded tt tt in
@@ -35,15 +27,15 @@ returns-in-Identifier t c d e =
     let a = p.one in
     let b = a.two in
     let z = b.two in
-    let pl : c.next-place-place.result ≡ place_of rs v.0.0 = c.next-place-place.ensures ∙ ap (next_place rs) (q) ∙ ap (place_of rs) (sym a.one.index) in
+    let pl : c.next_place-place.result ≡ place_of rs v.0.0 = c.next_place-place.ensures ∙ ap (next_place rs) (q) ∙ ap (place_of rs) (sym a.one.index) in
     extends_join a.one.passed
-    (unary_lays {m = 1} {n = 1} b.one.passed z.one z.two.passed p.two (entry_same c.node.ensures refl pl (c.word-length-length.ensures.is ∙ ap (word_length s) pl) (c.root.ensures ∙ ap last_root z.came) refl) 0 (omega arith)) y.two
+    (unary_lays {m = 1} {n = 1} b.one.passed z.one z.two.passed p.two (entry_same c.node.ensures refl pl (c.word_length-length.ensures.is ∙ ap (word_length s) pl) (c.root.ensures ∙ ap last_root z.came) refl) 0 (omega arith)) y.two
     (entry_same c.bare.ensures refl refl refl (c.root-in-Identifier.ensures ∙ ap last_root (q)) (c.root-in-Identifier-2.ensures ∙ ap last_root y.came))
     x.two 0 (omega arith))
-    (goes_seq _ _ (goes_push _ _ (goes_push _ _ (goes_seq _ _ (goes_on _ _ c.advance.ensures o) (goes_seq _ _ (goes_expect _ _ c.expect-equal.ensures) (goes_seq _ _ (c.constant-value.ensures d e) (goes_expect _ _ c.expect-ended.ensures)))) c.push-item.ensures) c.push-joined.ensures) (c.more-constants.ensures d e)))
+    (goes_seq _ _ (goes_push _ _ (goes_push _ _ (goes_seq _ _ (goes_on _ _ c.advance.ensures o) (goes_seq _ _ (goes_expect _ _ c.expect-equal.ensures) (goes_seq _ _ (c.constant-value.ensures d e) (goes_expect _ _ c.expect-ended.ensures)))) c.push-item.ensures) c.push-joined.ensures) (c.more_constants.ensures d e)))
 
-pub returns-in-default : goal.returns-in-default
-returns-in-default t c d e =
+pub returns-in_default : goal.returns-in_default
+returns-in_default t c d e =
     let s = c.args.source.now in
     let rs = c.args.symbols.now in
     goes_map _ _ (λ c₀ c₂ t₂ v q g x. extends_by (λ y a. list (constant_of s rs) a y) x.0 (extends_none x.1))

@@ -1,5 +1,5 @@
 use Rattle.syntax.specs.Symbols.{remaining}
 use Rattle.parser.proofs.declarations.+more_pars.Given as goal
 
-abbrev pub decreases-more-pars : goal.decreases-more-pars
-decreases-more-pars l = remaining l.symbols.now l.before
+abbrev pub decreases-more_pars : goal.decreases-more_pars
+decreases-more_pars l = remaining l.symbols.now l.before

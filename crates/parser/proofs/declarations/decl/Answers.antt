@@ -1,18 +1,10 @@
-use Rattle.std.proofs.Common.{◌≡◌, ℕ, suc, ◌+◌, ◌-◌, ◌*◌, ◌<◌, ◌≤◌, true, false, not, T, ◌⊎◌, List, [], ◌∷◌, length, sym, refl, ap, ◌∙◌, subst, ap₂, inl, inr, arith, rules}
+use Rattle.std.proofs.Common.{[], ◌∷◌, sym, refl, ap, ◌∙◌, arith, rules}
 use Rattle.grammar.specs.Codes.{code}
-use Rattle.grammar.specs.Ebnf.{mem}
-use Rattle.grammar.specs.Sets.{firsts}
-use Rattle.grammar.specs.Language.{Elem, Range, Set, Index, Args, Module, Decl, Proc, Heading, Pars, Body, Const, «Type», Action, Stats, Stat, If, While, Repeat, Loop, Return, For, Control, Expr, Sum, Term, Factor}
-use Rattle.vocabulary.specs.declared.tag.Tag.TheVariants.{EndOfSource}
 use Rattle.syntax.specs.declared.tree.NodeKind.TheVariants as kind
-use Rattle.syntax.specs.Symbols.{tag_codes, next_code, next_place, place_of, tag_at, next_tag, number_at, word_length, last_root, remaining}
-use Rattle.syntax.specs.Syntax.{Syntax, leaf, unary, binary, label, entry}
-use Rattle.syntax.specs.Actions.{act, items, list, operators, signed, maybe, behind, chain, arm, result, name, names, either, at, named}
-use Rattle.syntax.specs.Post.{Passed, Taken, Lays, Extends}
-use Rattle.syntax.proofs.Goes.{On, Off, on_by, off_by, goes_on, goes_expect, goes_seq, goes_inl, goes_inr, goes_none, goes_nil, goes_cons, goes_push, goes_map, goes_node, goes_left, goes_right, goes_wrong, goes_out, goes_deep, goes_full, goes_within, goes_around, goes_falls, goes_shrinks, goes_keeps, on_falls, tok_falls, goes_skip, goes_turn, on_class, off_class}
-use Rattle.syntax.proofs.Lays.{lays_as, leaf_lays, unary_lays, binary_lays, passed_both, extends_none, extends_join, extends_by, lays_more, lays_passed, lays_close, lays_spend, lays_paid, lays_lift, laid_binary, laid_passed, extends_both, extends_unary, extends_laid, leaf_adds, passed_none, entry_same}
-use Rattle.syntax.specs.Forms.{linked, constant_of, variable_of, array_of, closes, selected, targeted, assigned, number_of, relations, additions, multiplications, signs}
-use Rattle.lexer.specs.declared.symbol.SymbolRecord.{SymbolRecord}
+use Rattle.syntax.specs.Symbols.{tag_codes, next_place, place_of, last_root}
+use Rattle.syntax.specs.Actions.{at}
+use Rattle.syntax.proofs.Goes.{On, on_by, off_by, goes_on, goes_expect, goes_seq, goes_push, goes_map, goes_node, goes_left, goes_right}
+use Rattle.syntax.proofs.Lays.{extends_none, extends_join, lays_more, leaf_adds, passed_none, entry_same}
 use Rattle.parser.proofs.declarations.decl.Goals as goal
 
 pub returns-in-Const : goal.returns-in-Const
@@ -24,18 +16,18 @@ returns-in-Const c d e =
     (λ c₀ c₂ t₂ v q g x.
     let y = x.one in
     let p = y.one in
-    extends_join {m = 0} p.one.passed (lays_more {k = 1} {m = 0} (leaf_adds (at s rs kind.Constants v.0) passed_none (entry_same c.node.ensures refl (c.next-place-place.ensures ∙ ap (next_place rs) (q) ∙ ap (place_of rs) (sym p.one.index)) refl refl refl) p.two) y.two) x.two
+    extends_join {m = 0} p.one.passed (lays_more {k = 1} {m = 0} (leaf_adds (at s rs kind.Constants v.0) passed_none (entry_same c.node.ensures refl (c.next_place-place.ensures ∙ ap (next_place rs) (q) ∙ ap (place_of rs) (sym p.one.index)) refl refl refl) p.two) y.two) x.two
     (entry_same c.bare.ensures refl refl refl (c.root.ensures ∙ ap last_root (q)) (c.root-in-Const.ensures ∙ ap last_root x.came)) (extends_none passed_none) 0 (omega arith))
-    (goes_push _ _ (goes_seq _ _ (goes_push _ _ (goes_on _ _ c.advance.ensures o) c.push-head.ensures) (c.more-constants-all.ensures d e)) c.push.ensures)))
+    (goes_push _ _ (goes_seq _ _ (goes_push _ _ (goes_on _ _ c.advance.ensures o) c.push-head.ensures) (c.more_constants-all.ensures d e)) c.push.ensures)))
 
-pub returns-in-default : goal.returns-in-default
-returns-in-default c d e =
+pub returns-in_default : goal.returns-in_default
+returns-in_default c d e =
     let s = c.args.source.now in
     let rs = c.args.symbols.now in
     goes_node _ _ (goes_right _ _ (off_by (code c.next.result) c.next.ensures.coded tt (search rules)) (goes_map _ _
     (λ c₀ c₂ t₂ v q g x.
     let y = x.one in
     let p = y.one in
-    extends_join {m = 0} p.one.passed (lays_more {k = 1} {m = 0} (leaf_adds (at s rs kind.Variables v.0) passed_none (entry_same c.node-in-default.ensures refl (c.next-place-place.ensures ∙ ap (next_place rs) (q) ∙ ap (place_of rs) (sym p.one.index)) refl refl refl) p.two) y.two) x.two
-    (entry_same c.bare-in-default.ensures refl refl refl (c.root-in-default.ensures ∙ ap last_root (q)) (c.root-in-default-2.ensures ∙ ap last_root x.came)) (extends_none passed_none) 0 (omega arith))
-    (goes_push _ _ (goes_seq _ _ (goes_push _ _ (goes_expect _ _ c.expect.ensures) c.push-head-in-default.ensures) (c.more-variables-all.ensures d e)) c.push-in-default.ensures)))
+    extends_join {m = 0} p.one.passed (lays_more {k = 1} {m = 0} (leaf_adds (at s rs kind.Variables v.0) passed_none (entry_same c.node-in_default.ensures refl (c.next_place-place.ensures ∙ ap (next_place rs) (q) ∙ ap (place_of rs) (sym p.one.index)) refl refl refl) p.two) y.two) x.two
+    (entry_same c.bare-in_default.ensures refl refl refl (c.root-in_default.ensures ∙ ap last_root (q)) (c.root-in_default-2.ensures ∙ ap last_root x.came)) (extends_none passed_none) 0 (omega arith))
+    (goes_push _ _ (goes_seq _ _ (goes_push _ _ (goes_expect _ _ c.expect.ensures) c.push-head-in_default.ensures) (c.more_variables-all.ensures d e)) c.push-in_default.ensures)))

@@ -1,18 +1,13 @@
-use Rattle.std.proofs.Common.{◌≡◌, ℕ, suc, ◌+◌, ◌-◌, ◌*◌, ◌<◌, ◌≤◌, true, false, not, T, ◌⊎◌, List, [], ◌∷◌, length, sym, refl, ap, ◌∙◌, subst, ap₂, inl, inr, arith, rules}
+use Rattle.std.proofs.Common.{[], ◌∷◌, refl, ap, ◌∙◌, arith, rules}
 use Rattle.grammar.specs.Codes.{code}
-use Rattle.grammar.specs.Ebnf.{mem}
-use Rattle.grammar.specs.Sets.{firsts}
-use Rattle.grammar.specs.Language.{Elem, Range, Set, Index, Args, Module, Decl, Proc, Heading, Pars, Body, Const, «Type», Action, Stats, Stat, If, While, Repeat, Loop, Return, For, Control, Expr, Sum, Term, Factor}
+use Rattle.grammar.specs.Language.{Heading}
 use Rattle.vocabulary.specs.declared.tag.Tag.TheVariants.{EndOfSource}
 use Rattle.syntax.specs.declared.tree.NodeKind.TheVariants as kind
-use Rattle.syntax.specs.Symbols.{tag_codes, next_code, next_place, place_of, tag_at, next_tag, number_at, word_length, last_root, remaining}
-use Rattle.syntax.specs.Syntax.{Syntax, leaf, unary, binary, label, entry}
-use Rattle.syntax.specs.Actions.{act, items, list, operators, signed, maybe, behind, chain, arm, result, name, names, either, at, named}
-use Rattle.syntax.specs.Post.{Passed, Taken, Lays, Extends}
-use Rattle.syntax.proofs.Goes.{On, Off, on_by, off_by, goes_on, goes_expect, goes_seq, goes_inl, goes_inr, goes_none, goes_nil, goes_cons, goes_push, goes_map, goes_node, goes_left, goes_right, goes_wrong, goes_out, goes_deep, goes_full, goes_within, goes_around, goes_falls, goes_shrinks, goes_keeps, on_falls, tok_falls, goes_skip, goes_turn, on_class, off_class}
-use Rattle.syntax.proofs.Lays.{lays_as, leaf_lays, unary_lays, binary_lays, passed_both, extends_none, extends_join, extends_by, lays_more, lays_passed, lays_close, lays_spend, lays_paid, lays_lift, laid_binary, laid_passed, extends_both, extends_unary, extends_laid, leaf_adds, passed_none, entry_same}
-use Rattle.syntax.specs.Forms.{linked, constant_of, variable_of, array_of, closes, selected, targeted, assigned, number_of, relations, additions, multiplications, signs}
-use Rattle.lexer.specs.declared.symbol.SymbolRecord.{SymbolRecord}
+use Rattle.syntax.specs.Symbols.{tag_codes, last_root}
+use Rattle.syntax.specs.Syntax.{label}
+use Rattle.syntax.specs.Actions.{act}
+use Rattle.syntax.proofs.Goes.{On, on_by, off_by, goes_on, goes_expect, goes_seq, goes_inl, goes_inr, goes_none, goes_push, goes_map, goes_node}
+use Rattle.syntax.proofs.Lays.{lays_as, leaf_lays, binary_lays, lays_more, leaf_adds, passed_none, entry_same}
 use Rattle.parser.proofs.declarations.heading.Goals as goal
 
 pub returns-in-OpenRound : goal.returns-in-OpenRound
@@ -30,16 +25,16 @@ returns-in-OpenRound c d e =
     (binary_lays l z.one.passed z.two x.two
     (entry_same c.bare-in-OpenRound.ensures refl refl refl (c.root.ensures ∙ ap last_root b.came) (c.root-in-OpenRound.ensures ∙ ap last_root x.came)) 3 (omega arith)))
     (goes_push _ _ (goes_inl _ _ o (goes_seq _ _ (goes_push _ _ (goes_on _ _ c.advance.ensures o) c.push-before.ensures)
-    (goes_seq _ _ (c.parameters-all.ensures d e) (goes_seq _ _ (goes_expect _ _ c.expect-closed.ensures) (c.result-type-kind.ensures d e))))) c.push.ensures))
+    (goes_seq _ _ (c.parameters-all.ensures d e) (goes_seq _ _ (goes_expect _ _ c.expect-closed.ensures) (c.result_type-kind.ensures d e))))) c.push.ensures))
 
-pub returns-in-default : goal.returns-in-default
-returns-in-default c d e =
+pub returns-in_default : goal.returns-in_default
+returns-in_default c d e =
     let s = c.args.source.now in
     let rs = c.args.symbols.now in
     goes_node _ _ (goes_map _ _
     (λ c₀ c₂ t₂ v q g x.
     let a = x.one.one in
     lays_as (ap (act s rs Heading) a.one.is)
-    (binary_lays {n = 0} (leaf_adds (label kind.Empty EndOfSource 0 0) a.one.wrote c.bare-in-default.ensures a.two) passed_none (leaf_adds (label kind.Empty EndOfSource 0 0) passed_none c.bare-in-default-2.ensures x.one.two) x.two
-    (entry_same c.bare-in-default-3.ensures refl refl refl (c.root-in-default.ensures ∙ ap last_root x.one.came) (c.root-in-default-2.ensures ∙ ap last_root x.came)) 3 (omega arith)))
-    (goes_push _ _ (goes_push _ _ (goes_push _ _ (goes_inr _ _ (off_by (code c.next.result) c.next.ensures.coded tt (search rules)) (goes_none _ _)) c.push-all.ensures) c.push-kind.ensures) c.push-in-default.ensures))
+    (binary_lays {n = 0} (leaf_adds (label kind.Empty EndOfSource 0 0) a.one.wrote c.bare-in_default.ensures a.two) passed_none (leaf_adds (label kind.Empty EndOfSource 0 0) passed_none c.bare-in_default-2.ensures x.one.two) x.two
+    (entry_same c.bare-in_default-3.ensures refl refl refl (c.root-in_default.ensures ∙ ap last_root x.one.came) (c.root-in_default-2.ensures ∙ ap last_root x.came)) 3 (omega arith)))
+    (goes_push _ _ (goes_push _ _ (goes_push _ _ (goes_inr _ _ (off_by (code c.next.result) c.next.ensures.coded tt (search rules)) (goes_none _ _)) c.push-all.ensures) c.push-kind.ensures) c.push-in_default.ensures))

@@ -1,18 +1,12 @@
-use Rattle.std.proofs.Common.{◌≡◌, ℕ, suc, ◌+◌, ◌-◌, ◌*◌, ◌<◌, ◌≤◌, true, false, not, T, ◌⊎◌, List, [], ◌∷◌, length, sym, refl, ap, ◌∙◌, subst, ap₂, inl, inr, arith, rules}
+use Rattle.std.proofs.Common.{[], ◌∷◌, ap, rules}
 use Rattle.grammar.specs.Codes.{code}
-use Rattle.grammar.specs.Ebnf.{mem}
-use Rattle.grammar.specs.Sets.{firsts}
-use Rattle.grammar.specs.Language.{Elem, Range, Set, Index, Args, Module, Decl, Proc, Heading, Pars, Body, Const, «Type», Action, Stats, Stat, If, While, Repeat, Loop, Return, For, Control, Expr, Sum, Term, Factor}
 use Rattle.vocabulary.specs.declared.tag.Tag.TheVariants.{EndOfSource}
 use Rattle.syntax.specs.declared.tree.NodeKind.TheVariants as kind
-use Rattle.syntax.specs.Symbols.{tag_codes, next_code, next_place, place_of, tag_at, next_tag, number_at, word_length, last_root, remaining}
-use Rattle.syntax.specs.Syntax.{Syntax, leaf, unary, binary, label, entry}
-use Rattle.syntax.specs.Actions.{act, items, list, operators, signed, maybe, behind, chain, arm, result, name, names, either, at, named}
-use Rattle.syntax.specs.Post.{Passed, Taken, Lays, Extends}
-use Rattle.syntax.proofs.Goes.{On, Off, on_by, off_by, goes_on, goes_expect, goes_seq, goes_inl, goes_inr, goes_none, goes_nil, goes_cons, goes_push, goes_map, goes_node, goes_left, goes_right, goes_wrong, goes_out, goes_deep, goes_full, goes_within, goes_around, goes_falls, goes_shrinks, goes_keeps, on_falls, tok_falls, goes_skip, goes_turn, on_class, off_class}
-use Rattle.syntax.proofs.Lays.{lays_as, leaf_lays, unary_lays, binary_lays, passed_both, extends_none, extends_join, extends_by, lays_more, lays_passed, lays_close, lays_spend, lays_paid, lays_lift, laid_binary, laid_passed, extends_both, extends_unary, extends_laid, leaf_adds, passed_none, entry_same}
-use Rattle.syntax.specs.Forms.{linked, constant_of, variable_of, array_of, closes, selected, targeted, assigned, number_of, relations, additions, multiplications, signs}
-use Rattle.lexer.specs.declared.symbol.SymbolRecord.{SymbolRecord}
+use Rattle.syntax.specs.Symbols.{tag_codes}
+use Rattle.syntax.specs.Syntax.{label}
+use Rattle.syntax.specs.Actions.{result_type}
+use Rattle.syntax.proofs.Goes.{On, on_by, off_by, goes_on, goes_seq, goes_inl, goes_inr, goes_none, goes_push, goes_map}
+use Rattle.syntax.proofs.Lays.{lays_as, lays_passed, lays_lift, leaf_adds}
 use Rattle.parser.proofs.declarations.result_type.Goals as goal
 
 pub returns-in-Colon : goal.returns-in-Colon
@@ -20,12 +14,12 @@ returns-in-Colon c d e =
     let s = c.args.source.now in
     let rs = c.args.symbols.now in
     let o : On (tag_codes rs) c.args.before (57 ∷ []) = on_by 57 c.in-Colon.ensures.coded tt tt in
-    goes_map _ _ (λ c₀ c₂ t₂ v q g x. lays_as (ap (result s rs) x.is) (lays_lift 1 (lays_passed x.wrote.one.passed x.wrote.two)))
+    goes_map _ _ (λ c₀ c₂ t₂ v q g x. lays_as (ap (result_type s rs) x.is) (lays_lift 1 (lays_passed x.wrote.one.passed x.wrote.two)))
     (goes_inl _ _ o (goes_seq _ _ (goes_on _ _ c.advance.ensures o) (c.name.ensures d e)))
 
-pub returns-in-default : goal.returns-in-default
-returns-in-default c d e =
+pub returns-in_default : goal.returns-in_default
+returns-in_default c d e =
     let s = c.args.source.now in
     let rs = c.args.symbols.now in
-    goes_map _ _ (λ c₀ c₂ t₂ v q g x. lays_as (ap (result s rs) x.one.is) (leaf_adds (label kind.Empty EndOfSource 0 0) x.one.wrote c.bare.ensures x.two))
+    goes_map _ _ (λ c₀ c₂ t₂ v q g x. lays_as (ap (result_type s rs) x.one.is) (leaf_adds (label kind.Empty EndOfSource 0 0) x.one.wrote c.bare.ensures x.two))
     (goes_push _ _ (goes_inr _ _ (off_by (code c.next.result) c.next.ensures.coded tt (search rules)) (goes_none _ _)) c.push.ensures)

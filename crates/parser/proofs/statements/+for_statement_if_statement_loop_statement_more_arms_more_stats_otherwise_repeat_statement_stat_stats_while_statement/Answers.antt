@@ -1,34 +1,29 @@
-use Rattle.std.proofs.Common.{◌≡◌, ℕ, suc, ◌+◌, ◌-◌, ◌<◌, ◌≤◌, true, false, not, T, ◌⊎◌, List, [], ◌∷◌, sym, refl, ap, ◌∙◌, subst, ap₂, inl, inr, arith, rules}
+use Rattle.std.proofs.Common.{◌≡◌, ◌-◌, ◌<◌, [], ◌∷◌, sym, refl, ap, ◌∙◌, arith, rules}
 use Rattle.grammar.specs.Codes.{code}
-use Rattle.grammar.specs.Ebnf.{mem}
-use Rattle.grammar.specs.Sets.{firsts}
-use Rattle.grammar.specs.Language.{Elem, Range, Set, Index, Args, Action, Stats, Stat, If, While, Repeat, Loop, Return, For, Control, Expr, Sum, Term, Factor}
+use Rattle.grammar.specs.Language.{Stat}
 use Rattle.vocabulary.specs.declared.tag.Tag.TheVariants.{EndOfSource}
 use Rattle.syntax.specs.declared.tree.NodeKind.TheVariants as kind
-use Rattle.syntax.specs.Symbols.{tag_codes, next_code, next_place, place_of, tag_at, next_tag, number_at, word_length, last_root, remaining}
-use Rattle.syntax.specs.Syntax.{Syntax, leaf, unary, binary, label, entry}
-use Rattle.syntax.specs.Actions.{act, items, list, operators, signed, maybe, behind, chain, arm}
-use Rattle.syntax.specs.Post.{Passed, Taken, Lays, Extends}
-use Rattle.syntax.proofs.Goes.{On, Off, on_by, off_by, goes_on, goes_expect, goes_seq, goes_inl, goes_inr, goes_none, goes_nil, goes_cons, goes_push, goes_map, goes_node, goes_left, goes_right, goes_wrong, goes_out, goes_deep, goes_full, goes_within, goes_around, goes_falls, goes_keeps, on_falls, tok_falls, goes_skip, goes_turn, on_class, off_class}
-use Rattle.syntax.proofs.Lays.{lays_as, leaf_lays, unary_lays, binary_lays, passed_both, extends_none, extends_join, extends_by, lays_more, lays_passed, lays_close, lays_spend, lays_lift, leaf_adds, passed_none, entry_same}
-use Rattle.syntax.specs.Forms.{selected, targeted, assigned, number_of, relations, additions, multiplications, signs}
-use Rattle.lexer.specs.declared.symbol.SymbolRecord.{SymbolRecord}
+use Rattle.syntax.specs.Symbols.{tag_codes, next_place, place_of, last_root, remaining}
+use Rattle.syntax.specs.Syntax.{label}
+use Rattle.syntax.specs.Actions.{act, list, behind, chain, arm}
+use Rattle.syntax.proofs.Goes.{On, on_by, off_by, goes_on, goes_expect, goes_seq, goes_inl, goes_inr, goes_none, goes_nil, goes_cons, goes_push, goes_map, goes_node, goes_left, goes_right, goes_out, goes_full, goes_within, goes_falls, goes_keeps, on_falls}
+use Rattle.syntax.proofs.Lays.{lays_as, leaf_lays, unary_lays, binary_lays, extends_none, extends_join, extends_by, lays_more, lays_passed, lays_close, lays_spend, lays_lift, leaf_adds, passed_none, entry_same}
 use Rattle.parser.proofs.statements.+for_statement_if_statement_loop_statement_more_arms_more_stats_otherwise_repeat_statement_stat_stats_while_statement.Goals as goal
 
 pub stats-returns : goal.stats-returns
 stats-returns t c =
-    goes_node _ _ (goes_map _ _ (λ c₀ c₂ t₂ v q g x. lays_more {k = 1} {m = 0} x.one x.two) (goes_seq _ _ c.stat-first.ensures c.more-stats.ensures))
+    goes_node _ _ (goes_map _ _ (λ c₀ c₂ t₂ v q g x. lays_more {k = 1} {m = 0} x.one x.two) (goes_seq _ _ c.stat-first.ensures c.more_stats.ensures))
 
-pub more-stats-stat-item-requires : goal.more-stats-stat-item-requires
-more-stats-stat-item-requires t c =
+pub more_stats-stat-item-requires : goal.more_stats-stat-item-requires
+more_stats-stat-item-requires t c =
     let s = c.args.source.now in
     let rs = c.args.symbols.now in
     let o : On (tag_codes rs) c.args.before (56 ∷ []) = on_by 56 c.in-Semicolon.ensures.coded tt tt in
     let h = on_falls s rs c.advance.ensures o in
     (omega arith, tt)
 
-pub more-stats-more-stats-requires : goal.more-stats-more-stats-requires
-more-stats-more-stats-requires t c =
+pub more_stats-more_stats-requires : goal.more_stats-more_stats-requires
+more_stats-more_stats-requires t c =
     let s = c.args.source.now in
     let rs = c.args.symbols.now in
     let o : On (tag_codes rs) c.args.before (56 ∷ []) = on_by 56 c.in-Semicolon.ensures.coded tt tt in
@@ -36,8 +31,8 @@ more-stats-more-stats-requires t c =
     goes_falls _ _ o (goes_push _ _ (goes_seq _ _ (goes_on _ _ c.advance.ensures o) c.stat-item.ensures) c.push-joined.ensures) in
     (omega arith, tt)
 
-pub more-stats-returns-in-Semicolon : goal.more-stats-returns-in-Semicolon
-more-stats-returns-in-Semicolon t c =
+pub more_stats-returns-in-Semicolon : goal.more_stats-returns-in-Semicolon
+more_stats-returns-in-Semicolon t c =
     let s = c.args.source.now in
     let rs = c.args.symbols.now in
     let o : On (tag_codes rs) c.args.before (56 ∷ []) = on_by 56 c.in-Semicolon.ensures.coded tt tt in
@@ -47,10 +42,10 @@ more-stats-returns-in-Semicolon t c =
     extends_join y.one.one.passed y.one.two y.two
     (entry_same c.bare.ensures refl refl refl (c.root.ensures ∙ ap last_root q) (c.root-in-Semicolon.ensures ∙ ap last_root y.came))
     x.two 0 (omega arith))
-    (goes_seq _ _ (goes_push _ _ (goes_seq _ _ (goes_on _ _ c.advance.ensures o) c.stat-item.ensures) c.push-joined.ensures) c.more-stats.ensures))
+    (goes_seq _ _ (goes_push _ _ (goes_seq _ _ (goes_on _ _ c.advance.ensures o) c.stat-item.ensures) c.push-joined.ensures) c.more_stats.ensures))
 
-pub more-stats-returns-in-default : goal.more-stats-returns-in-default
-more-stats-returns-in-default t c =
+pub more_stats-returns-in_default : goal.more_stats-returns-in_default
+more_stats-returns-in_default t c =
     goes_map _ _ (λ c₀ c₂ t₂ v q g x. extends_by (λ y a. chain (λ z. label kind.Sequence EndOfSource 0 0) (λ z. z.1) a y) x.0 (extends_none x.1))
     (goes_nil _ _ (off_by (code c.next.result) c.next.ensures.coded tt (search rules)))
 
@@ -67,56 +62,56 @@ stat-returns-in-Exit t c =
     let rs = c.args.symbols.now in
     let k = c.in-Exit.ensures.coded in
     goes_node _ _ (goes_left _ _ (on_by 13 k tt tt) (goes_right _ _ (off_by 13 k tt tt) (goes_left _ _ (on_by 13 k tt tt) (goes_map _ _ (λ c₀ c₂ t₂ v q g x. lays_lift 1 (leaf_lays {n = 0} _ x.one.passed
-    (entry_same c.node.ensures refl (c.next-place-place.ensures ∙ ap (next_place rs) q ∙ ap (place_of rs) (sym x.one.index)) refl refl refl) x.two)) (goes_push _ _ (goes_on _ _ c.advance.ensures (on_by 13 k tt tt)) c.push.ensures)))))
+    (entry_same c.node.ensures refl (c.next_place-place.ensures ∙ ap (next_place rs) q ∙ ap (place_of rs) (sym x.one.index)) refl refl refl) x.two)) (goes_push _ _ (goes_on _ _ c.advance.ensures (on_by 13 k tt tt)) c.push.ensures)))))
 
 pub stat-returns-in-If : goal.stat-returns-in-If
 stat-returns-in-If t c =
     let s = c.args.source.now in
     let rs = c.args.symbols.now in
     let k = c.in-If.ensures.coded in
-    goes_node _ _ (goes_left _ _ (on_by 17 k tt tt) (goes_right _ _ (off_by 17 k tt tt) (goes_right _ _ (off_by 17 k tt tt) (goes_left _ _ (on_by 17 k tt tt) (goes_map _ _ (λ c₀ c₂ t₂ v q g x. lays_lift 1 x) c.if-statement.ensures)))))
+    goes_node _ _ (goes_left _ _ (on_by 17 k tt tt) (goes_right _ _ (off_by 17 k tt tt) (goes_right _ _ (off_by 17 k tt tt) (goes_left _ _ (on_by 17 k tt tt) (goes_map _ _ (λ c₀ c₂ t₂ v q g x. lays_lift 1 x) c.if_statement.ensures)))))
 
 pub stat-returns-in-While : goal.stat-returns-in-While
 stat-returns-in-While t c =
     let s = c.args.source.now in
     let rs = c.args.symbols.now in
     let k = c.in-While.ensures.coded in
-    goes_node _ _ (goes_left _ _ (on_by 39 k tt tt) (goes_right _ _ (off_by 39 k tt tt) (goes_right _ _ (off_by 39 k tt tt) (goes_right _ _ (off_by 39 k tt tt) (goes_left _ _ (on_by 39 k tt tt) (goes_map _ _ (λ c₀ c₂ t₂ v q g x. lays_lift 1 x) c.while-statement.ensures))))))
+    goes_node _ _ (goes_left _ _ (on_by 39 k tt tt) (goes_right _ _ (off_by 39 k tt tt) (goes_right _ _ (off_by 39 k tt tt) (goes_right _ _ (off_by 39 k tt tt) (goes_left _ _ (on_by 39 k tt tt) (goes_map _ _ (λ c₀ c₂ t₂ v q g x. lays_lift 1 x) c.while_statement.ensures))))))
 
 pub stat-returns-in-Repeat : goal.stat-returns-in-Repeat
 stat-returns-in-Repeat t c =
     let s = c.args.source.now in
     let rs = c.args.symbols.now in
     let k = c.in-Repeat.ensures.coded in
-    goes_node _ _ (goes_left _ _ (on_by 31 k tt tt) (goes_right _ _ (off_by 31 k tt tt) (goes_right _ _ (off_by 31 k tt tt) (goes_right _ _ (off_by 31 k tt tt) (goes_right _ _ (off_by 31 k tt tt) (goes_left _ _ (on_by 31 k tt tt) (goes_map _ _ (λ c₀ c₂ t₂ v q g x. lays_lift 1 x) c.repeat-statement.ensures)))))))
+    goes_node _ _ (goes_left _ _ (on_by 31 k tt tt) (goes_right _ _ (off_by 31 k tt tt) (goes_right _ _ (off_by 31 k tt tt) (goes_right _ _ (off_by 31 k tt tt) (goes_right _ _ (off_by 31 k tt tt) (goes_left _ _ (on_by 31 k tt tt) (goes_map _ _ (λ c₀ c₂ t₂ v q g x. lays_lift 1 x) c.repeat_statement.ensures)))))))
 
 pub stat-returns-in-Loop : goal.stat-returns-in-Loop
 stat-returns-in-Loop t c =
     let s = c.args.source.now in
     let rs = c.args.symbols.now in
     let k = c.in-Loop.ensures.coded in
-    goes_node _ _ (goes_left _ _ (on_by 21 k tt tt) (goes_right _ _ (off_by 21 k tt tt) (goes_right _ _ (off_by 21 k tt tt) (goes_right _ _ (off_by 21 k tt tt) (goes_right _ _ (off_by 21 k tt tt) (goes_right _ _ (off_by 21 k tt tt) (goes_left _ _ (on_by 21 k tt tt) (goes_map _ _ (λ c₀ c₂ t₂ v q g x. lays_lift 1 x) c.loop-statement.ensures))))))))
+    goes_node _ _ (goes_left _ _ (on_by 21 k tt tt) (goes_right _ _ (off_by 21 k tt tt) (goes_right _ _ (off_by 21 k tt tt) (goes_right _ _ (off_by 21 k tt tt) (goes_right _ _ (off_by 21 k tt tt) (goes_right _ _ (off_by 21 k tt tt) (goes_left _ _ (on_by 21 k tt tt) (goes_map _ _ (λ c₀ c₂ t₂ v q g x. lays_lift 1 x) c.loop_statement.ensures))))))))
 
 pub stat-returns-in-Return : goal.stat-returns-in-Return
 stat-returns-in-Return t c =
     let s = c.args.source.now in
     let rs = c.args.symbols.now in
     let k = c.in-Return.ensures.coded in
-    goes_node _ _ (goes_left _ _ (on_by 32 k tt tt) (goes_right _ _ (off_by 32 k tt tt) (goes_right _ _ (off_by 32 k tt tt) (goes_right _ _ (off_by 32 k tt tt) (goes_right _ _ (off_by 32 k tt tt) (goes_right _ _ (off_by 32 k tt tt) (goes_right _ _ (off_by 32 k tt tt) (goes_left _ _ (on_by 32 k tt tt) (goes_map _ _ (λ c₀ c₂ t₂ v q g x. lays_lift 1 x) (c.return-statement.ensures _))))))))))
+    goes_node _ _ (goes_left _ _ (on_by 32 k tt tt) (goes_right _ _ (off_by 32 k tt tt) (goes_right _ _ (off_by 32 k tt tt) (goes_right _ _ (off_by 32 k tt tt) (goes_right _ _ (off_by 32 k tt tt) (goes_right _ _ (off_by 32 k tt tt) (goes_right _ _ (off_by 32 k tt tt) (goes_left _ _ (on_by 32 k tt tt) (goes_map _ _ (λ c₀ c₂ t₂ v q g x. lays_lift 1 x) (c.return_statement.ensures _))))))))))
 
 pub stat-returns-in-For : goal.stat-returns-in-For
 stat-returns-in-For t c =
     let s = c.args.source.now in
     let rs = c.args.symbols.now in
     let k = c.in-For.ensures.coded in
-    goes_node _ _ (goes_left _ _ (on_by 15 k tt tt) (goes_right _ _ (off_by 15 k tt tt) (goes_right _ _ (off_by 15 k tt tt) (goes_right _ _ (off_by 15 k tt tt) (goes_right _ _ (off_by 15 k tt tt) (goes_right _ _ (off_by 15 k tt tt) (goes_right _ _ (off_by 15 k tt tt) (goes_right _ _ (off_by 15 k tt tt) (goes_map _ _ (λ c₀ c₂ t₂ v q g x. lays_lift 1 x) c.for-statement.ensures)))))))))
+    goes_node _ _ (goes_left _ _ (on_by 15 k tt tt) (goes_right _ _ (off_by 15 k tt tt) (goes_right _ _ (off_by 15 k tt tt) (goes_right _ _ (off_by 15 k tt tt) (goes_right _ _ (off_by 15 k tt tt) (goes_right _ _ (off_by 15 k tt tt) (goes_right _ _ (off_by 15 k tt tt) (goes_right _ _ (off_by 15 k tt tt) (goes_map _ _ (λ c₀ c₂ t₂ v q g x. lays_lift 1 x) c.for_statement.ensures)))))))))
 
-pub stat-returns-in-default : goal.stat-returns-in-default
-stat-returns-in-default t c =
+pub stat-returns-in_default : goal.stat-returns-in_default
+stat-returns-in_default t c =
     let s = c.args.source.now in
     let rs = c.args.symbols.now in
     goes_node _ _ (goes_map _ _ (λ c₀ c₂ t₂ v q g x. lays_as (ap (act s rs Stat) x.one.is) (leaf_adds (label kind.Empty EndOfSource 0 0) x.one.wrote c.bare.ensures x.two))
-    (goes_push _ _ (goes_inr _ _ (off_by (code c.next.result) c.next.ensures.coded tt (search rules)) (goes_none _ _)) c.push-in-default.ensures))
+    (goes_push _ _ (goes_inr _ _ (off_by (code c.next.result) c.next.ensures.coded tt (search rules)) (goes_none _ _)) c.push-in_default.ensures))
 
 pub otherwise-stats-requires : goal.otherwise-stats-requires
 otherwise-stats-requires t c =
@@ -134,15 +129,15 @@ otherwise-returns-in-Else t c =
     goes_map _ _ (λ c₀ c₂ t₂ v q g x. lays_as (ap (behind s rs) x.is) (lays_passed x.wrote.one.passed x.wrote.two))
     (goes_inl _ _ o (goes_seq _ _ (goes_on _ _ c.advance.ensures o) c.stats.ensures))
 
-pub otherwise-returns-in-default : goal.otherwise-returns-in-default
-otherwise-returns-in-default t c =
+pub otherwise-returns-in_default : goal.otherwise-returns-in_default
+otherwise-returns-in_default t c =
     let s = c.args.source.now in
     let rs = c.args.symbols.now in
     goes_map _ _ (λ c₀ c₂ t₂ v q g x. lays_as (ap (behind s rs) x.one.is) (leaf_adds (label kind.Empty EndOfSource 0 0) x.one.wrote c.bare.ensures x.two))
     (goes_push _ _ (goes_inr _ _ (off_by (code c.next.result) c.next.ensures.coded tt (search rules)) (goes_none _ _)) c.push.ensures)
 
-pub more-arms-stats-body-requires : goal.more-arms-stats-body-requires
-more-arms-stats-body-requires t c =
+pub more_arms-stats-body-requires : goal.more_arms-stats-body-requires
+more_arms-stats-body-requires t c =
     let s = c.args.source.now in
     let rs = c.args.symbols.now in
     let o : On (tag_codes rs) c.args.before (11 ∷ []) = on_by 11 c.in-Elsif.ensures.coded tt tt in
@@ -151,16 +146,16 @@ more-arms-stats-body-requires t c =
     let h₃ = goes_keeps s rs (goes_expect s rs {d = 0} {e = 0} {t = []} c.expect-then.ensures) in
     (omega arith, tt)
 
-pub more-arms-more-arms-requires : goal.more-arms-more-arms-requires
-more-arms-more-arms-requires t c =
+pub more_arms-more_arms-requires : goal.more_arms-more_arms-requires
+more_arms-more_arms-requires t c =
     let s = c.args.source.now in
     let rs = c.args.symbols.now in
     let o : On (tag_codes rs) c.args.before (11 ∷ []) = on_by 11 c.in-Elsif.ensures.coded tt tt in
     let h : remaining rs c.push-joined.result < remaining rs c.args.before = goes_falls _ _ o (goes_push _ _ (goes_seq _ _ (goes_on _ _ c.advance.ensures o) (goes_seq _ _ (c.expr-condition.ensures _) (goes_seq _ _ (goes_expect _ _ c.expect-then.ensures) (goes_push _ _ c.stats-body.ensures c.push-arm.ensures)))) c.push-joined.ensures) in
     (omega arith, tt)
 
-pub more-arms-returns-in-Elsif : goal.more-arms-returns-in-Elsif
-more-arms-returns-in-Elsif t c =
+pub more_arms-returns-in-Elsif : goal.more_arms-returns-in-Elsif
+more_arms-returns-in-Elsif t c =
     let s = c.args.source.now in
     let rs = c.args.symbols.now in
     let o : On (tag_codes rs) c.args.before (11 ∷ []) = on_by 11 c.in-Elsif.ensures.coded tt tt in
@@ -171,32 +166,32 @@ more-arms-returns-in-Elsif t c =
     let b = a.two in
     let p = b.two in
     let l = binary_lays a.one b.one.passed p.one p.two
-    (entry_same c.node.ensures refl (c.next-place-place.ensures ∙ ap (next_place rs) q ∙ ap (place_of rs) (sym y.one.one.index)) refl (c.root.ensures ∙ ap last_root a.came) (c.root-in-Elsif.ensures ∙ ap last_root p.came)) 0 (omega arith) in
+    (entry_same c.node.ensures refl (c.next_place-place.ensures ∙ ap (next_place rs) q ∙ ap (place_of rs) (sym y.one.one.index)) refl (c.root.ensures ∙ ap last_root a.came) (c.root-in-Elsif.ensures ∙ ap last_root p.came)) 0 (omega arith) in
     extends_join y.one.one.passed l y.two
     (entry_same c.bare.ensures refl refl refl (c.root-in-Elsif-2.ensures ∙ ap last_root q) (c.root-in-Elsif-3.ensures ∙ ap last_root y.came))
     x.two 0 (omega arith))
-    (goes_seq _ _ (goes_push _ _ (goes_seq _ _ (goes_on _ _ c.advance.ensures o) (goes_seq _ _ (c.expr-condition.ensures _) (goes_seq _ _ (goes_expect _ _ c.expect-then.ensures) (goes_push _ _ c.stats-body.ensures c.push-arm.ensures)))) c.push-joined.ensures) c.more-arms.ensures))
+    (goes_seq _ _ (goes_push _ _ (goes_seq _ _ (goes_on _ _ c.advance.ensures o) (goes_seq _ _ (c.expr-condition.ensures _) (goes_seq _ _ (goes_expect _ _ c.expect-then.ensures) (goes_push _ _ c.stats-body.ensures c.push-arm.ensures)))) c.push-joined.ensures) c.more_arms.ensures))
 
-pub more-arms-returns-in-default : goal.more-arms-returns-in-default
-more-arms-returns-in-default t c =
+pub more_arms-returns-in_default : goal.more_arms-returns-in_default
+more_arms-returns-in_default t c =
     let s = c.args.source.now in
     let rs = c.args.symbols.now in
     goes_map _ _ (λ c₀ c₂ t₂ v q g x. extends_by (λ y a. list (arm s rs) a y) x.0 (extends_none x.1))
     (goes_nil _ _ (off_by (code c.next.result) c.next.ensures.coded tt (search rules)))
 
-pub if-statement-returns-then-room-eq0 : goal.if-statement-returns-then-room-eq0
-if-statement-returns-then-room-eq0 t c =
+pub if_statement-returns-then-room-eq0 : goal.if_statement-returns-then-room-eq0
+if_statement-returns-then-room-eq0 t c =
     let s = c.args.source.now in
     let rs = c.args.symbols.now in
     let o : On (tag_codes rs) c.args.start (17 ∷ []) = on_by 17 c.in-If.ensures.coded tt tt in
-    goes_node _ _ (goes_full _ _ c.if-room-eq0.true c.too-deep.ensures o)
+    goes_node _ _ (goes_full _ _ c.if-room-eq0.true c.too_deep.ensures o)
 
-pub if-statement-returns-in-default : goal.if-statement-returns-in-default
-if-statement-returns-in-default t c =
+pub if_statement-returns-in_default : goal.if_statement-returns-in_default
+if_statement-returns-in_default t c =
     goes_node _ _ (goes_out _ _ c.impossible.ensures (off_by (code c.next.result) c.next.ensures.coded tt (search rules)))
 
-pub if-statement-stats-body-requires : goal.if-statement-stats-body-requires
-if-statement-stats-body-requires t c =
+pub if_statement-stats-body-requires : goal.if_statement-stats-body-requires
+if_statement-stats-body-requires t c =
     let s = c.args.source.now in
     let rs = c.args.symbols.now in
     let o : On (tag_codes rs) c.args.start (17 ∷ []) = on_by 17 c.in-If.ensures.coded tt tt in
@@ -205,19 +200,19 @@ if-statement-stats-body-requires t c =
     let h₃ = goes_keeps s rs (goes_expect s rs {d = 0} {e = 0} {t = []} c.expect-then.ensures) in
     (omega arith, tt)
 
-pub while-statement-returns-then-room-eq0 : goal.while-statement-returns-then-room-eq0
-while-statement-returns-then-room-eq0 t c =
+pub while_statement-returns-then-room-eq0 : goal.while_statement-returns-then-room-eq0
+while_statement-returns-then-room-eq0 t c =
     let s = c.args.source.now in
     let rs = c.args.symbols.now in
     let o : On (tag_codes rs) c.args.start (39 ∷ []) = on_by 39 c.in-While.ensures.coded tt tt in
-    goes_node _ _ (goes_full _ _ c.if-room-eq0.true c.too-deep.ensures o)
+    goes_node _ _ (goes_full _ _ c.if-room-eq0.true c.too_deep.ensures o)
 
-pub while-statement-returns-in-default : goal.while-statement-returns-in-default
-while-statement-returns-in-default t c =
+pub while_statement-returns-in_default : goal.while_statement-returns-in_default
+while_statement-returns-in_default t c =
     goes_node _ _ (goes_out _ _ c.impossible.ensures (off_by (code c.next.result) c.next.ensures.coded tt (search rules)))
 
-pub while-statement-stats-body-requires : goal.while-statement-stats-body-requires
-while-statement-stats-body-requires t c =
+pub while_statement-stats-body-requires : goal.while_statement-stats-body-requires
+while_statement-stats-body-requires t c =
     let s = c.args.source.now in
     let rs = c.args.symbols.now in
     let o : On (tag_codes rs) c.args.start (39 ∷ []) = on_by 39 c.in-While.ensures.coded tt tt in
@@ -226,57 +221,57 @@ while-statement-stats-body-requires t c =
     let h₃ = goes_keeps s rs (goes_expect s rs {d = 0} {e = 0} {t = []} c.expect-begun.ensures) in
     (omega arith, tt)
 
-pub repeat-statement-returns-then-room-eq0 : goal.repeat-statement-returns-then-room-eq0
-repeat-statement-returns-then-room-eq0 t c =
+pub repeat_statement-returns-then-room-eq0 : goal.repeat_statement-returns-then-room-eq0
+repeat_statement-returns-then-room-eq0 t c =
     let s = c.args.source.now in
     let rs = c.args.symbols.now in
     let o : On (tag_codes rs) c.args.start (31 ∷ []) = on_by 31 c.in-Repeat.ensures.coded tt tt in
-    goes_node _ _ (goes_full _ _ c.if-room-eq0.true c.too-deep.ensures o)
+    goes_node _ _ (goes_full _ _ c.if-room-eq0.true c.too_deep.ensures o)
 
-pub repeat-statement-returns-in-default : goal.repeat-statement-returns-in-default
-repeat-statement-returns-in-default t c =
+pub repeat_statement-returns-in_default : goal.repeat_statement-returns-in_default
+repeat_statement-returns-in_default t c =
     goes_node _ _ (goes_out _ _ c.impossible.ensures (off_by (code c.next.result) c.next.ensures.coded tt (search rules)))
 
-pub repeat-statement-stats-body-requires : goal.repeat-statement-stats-body-requires
-repeat-statement-stats-body-requires t c =
+pub repeat_statement-stats-body-requires : goal.repeat_statement-stats-body-requires
+repeat_statement-stats-body-requires t c =
     let s = c.args.source.now in
     let rs = c.args.symbols.now in
     let o : On (tag_codes rs) c.args.start (31 ∷ []) = on_by 31 c.in-Repeat.ensures.coded tt tt in
     let h₁ = on_falls s rs c.advance.ensures o in
     (omega arith, tt)
 
-pub loop-statement-returns-then-room-eq0 : goal.loop-statement-returns-then-room-eq0
-loop-statement-returns-then-room-eq0 t c =
+pub loop_statement-returns-then-room-eq0 : goal.loop_statement-returns-then-room-eq0
+loop_statement-returns-then-room-eq0 t c =
     let s = c.args.source.now in
     let rs = c.args.symbols.now in
     let o : On (tag_codes rs) c.args.start (21 ∷ []) = on_by 21 c.in-Loop.ensures.coded tt tt in
-    goes_node _ _ (goes_full _ _ c.if-room-eq0.true c.too-deep.ensures o)
+    goes_node _ _ (goes_full _ _ c.if-room-eq0.true c.too_deep.ensures o)
 
-pub loop-statement-returns-in-default : goal.loop-statement-returns-in-default
-loop-statement-returns-in-default t c =
+pub loop_statement-returns-in_default : goal.loop_statement-returns-in_default
+loop_statement-returns-in_default t c =
     goes_node _ _ (goes_out _ _ c.impossible.ensures (off_by (code c.next.result) c.next.ensures.coded tt (search rules)))
 
-pub loop-statement-stats-body-requires : goal.loop-statement-stats-body-requires
-loop-statement-stats-body-requires t c =
+pub loop_statement-stats-body-requires : goal.loop_statement-stats-body-requires
+loop_statement-stats-body-requires t c =
     let s = c.args.source.now in
     let rs = c.args.symbols.now in
     let o : On (tag_codes rs) c.args.start (21 ∷ []) = on_by 21 c.in-Loop.ensures.coded tt tt in
     let h₁ = on_falls s rs c.advance.ensures o in
     (omega arith, tt)
 
-pub for-statement-returns-then-room-eq0 : goal.for-statement-returns-then-room-eq0
-for-statement-returns-then-room-eq0 t c =
+pub for_statement-returns-then-room-eq0 : goal.for_statement-returns-then-room-eq0
+for_statement-returns-then-room-eq0 t c =
     let s = c.args.source.now in
     let rs = c.args.symbols.now in
     let o : On (tag_codes rs) c.args.start (15 ∷ []) = on_by 15 c.in-For.ensures.coded tt tt in
-    goes_node _ _ (goes_full _ _ c.if-room-eq0.true c.too-deep.ensures o)
+    goes_node _ _ (goes_full _ _ c.if-room-eq0.true c.too_deep.ensures o)
 
-pub for-statement-returns-in-default : goal.for-statement-returns-in-default
-for-statement-returns-in-default t c =
+pub for_statement-returns-in_default : goal.for_statement-returns-in_default
+for_statement-returns-in_default t c =
     goes_node _ _ (goes_out _ _ c.impossible.ensures (off_by (code c.next.result) c.next.ensures.coded tt (search rules)))
 
-pub for-statement-stats-body-requires : goal.for-statement-stats-body-requires
-for-statement-stats-body-requires t c =
+pub for_statement-stats-body-requires : goal.for_statement-stats-body-requires
+for_statement-stats-body-requires t c =
     let s = c.args.source.now in
     let rs = c.args.symbols.now in
     let o : On (tag_codes rs) c.args.start (15 ∷ []) = on_by 15 c.in-For.ensures.coded tt tt in
@@ -285,8 +280,8 @@ for-statement-stats-body-requires t c =
     let h₃ = goes_keeps s rs (goes_expect s rs {d = 0} {e = 0} {t = []} c.expect-begun.ensures) in
     (omega arith, tt)
 
-pub if-statement-more-arms-arms-requires : goal.if-statement-more-arms-arms-requires
-if-statement-more-arms-arms-requires t c =
+pub if_statement-more_arms-arms-requires : goal.if_statement-more_arms-arms-requires
+if_statement-more_arms-arms-requires t c =
     let s = c.args.source.now in
     let rs = c.args.symbols.now in
     let o : On (tag_codes rs) c.args.start (17 ∷ []) = on_by 17 c.in-If.ensures.coded tt tt in
@@ -294,18 +289,18 @@ if-statement-more-arms-arms-requires t c =
     let h₂ = goes_keeps _ _ (goes_seq _ _ (c.expr-condition.ensures _) (goes_seq _ _ (goes_expect _ _ c.expect-then.ensures) (goes_push _ _ c.stats-body.ensures c.push-arm.ensures))) in
     (omega arith, tt)
 
-pub if-statement-otherwise-other-requires : goal.if-statement-otherwise-other-requires
-if-statement-otherwise-other-requires t c =
+pub if_statement-otherwise-other-requires : goal.if_statement-otherwise-other-requires
+if_statement-otherwise-other-requires t c =
     let s = c.args.source.now in
     let rs = c.args.symbols.now in
     let o : On (tag_codes rs) c.args.start (17 ∷ []) = on_by 17 c.in-If.ensures.coded tt tt in
     let h₁ = on_falls s rs c.advance.ensures o in
     let h₂ = goes_keeps _ _ (goes_seq _ _ (c.expr-condition.ensures _) (goes_seq _ _ (goes_expect _ _ c.expect-then.ensures) (goes_push _ _ c.stats-body.ensures c.push-arm.ensures))) in
-    let h₃ = goes_keeps _ _ c.more-arms-arms.ensures in
+    let h₃ = goes_keeps _ _ c.more_arms-arms.ensures in
     (omega arith, tt)
 
-pub if-statement-returns-else-room-eq0 : goal.if-statement-returns-else-room-eq0
-if-statement-returns-else-room-eq0 t c =
+pub if_statement-returns-else-room-eq0 : goal.if_statement-returns-else-room-eq0
+if_statement-returns-else-room-eq0 t c =
     let s = c.args.source.now in
     let rs = c.args.symbols.now in
     let o : On (tag_codes rs) c.args.start (17 ∷ []) = on_by 17 c.in-If.ensures.coded tt tt in
@@ -318,19 +313,19 @@ if-statement-returns-else-room-eq0 t c =
     let p = f.one in
     let z = f.two in
     let u = z.two in
-    let pl : c.next-place-place.result ≡ place_of rs v.0 = c.next-place-place.ensures ∙ ap (next_place rs) q ∙ ap (place_of rs) (sym y.opened) in
+    let pl : c.next_place-place.result ≡ place_of rs v.0 = c.next_place-place.ensures ∙ ap (next_place rs) q ∙ ap (place_of rs) (sym y.opened) in
     let l₁ = binary_lays a.one b.one.passed p.one p.two
     (entry_same c.node.ensures refl pl refl (c.root.ensures ∙ ap last_root a.came) (c.root-in-If.ensures ∙ ap last_root p.came)) 0 (omega arith) in
     let l₂ = lays_more l₁ z.one in
     let l₃ = lays_close {n = 1} u.one u.two.passed 0 (omega arith) in
     lays_spend y.one (binary_lays {n = 0} l₂ passed_none l₃ x.two
-    (entry_same c.node-in-If.ensures refl pl (c.next-place-end.ensures ∙ ap (next_place rs) u.came ∙ ap (place_of rs) (sym u.two.index)) (c.root-in-If-2.ensures ∙ ap last_root z.came) (c.root-in-If-3.ensures ∙ ap last_root u.came ∙ ap (λ m. m - 1) (sym u.two.passed.used))) 1 (omega arith)))
+    (entry_same c.node-in-If.ensures refl pl (c.next_place-end.ensures ∙ ap (next_place rs) u.came ∙ ap (place_of rs) (sym u.two.index)) (c.root-in-If-2.ensures ∙ ap last_root z.came) (c.root-in-If-3.ensures ∙ ap last_root u.came ∙ ap (λ m. m - 1) (sym u.two.passed.used))) 1 (omega arith)))
     (goes_push _ _ (goes_within _ _ (omega arith) c.advance.ensures o
     (goes_seq _ _ (c.expr-condition.ensures _) (goes_seq _ _ (goes_expect _ _ c.expect-then.ensures) (goes_seq _ _ (goes_push _ _ c.stats-body.ensures c.push-arm.ensures)
-    (goes_seq _ _ c.more-arms-arms.ensures (goes_seq _ _ c.otherwise-other.ensures (goes_expect _ _ c.expect-closed.ensures))))))) c.push.ensures))
+    (goes_seq _ _ c.more_arms-arms.ensures (goes_seq _ _ c.otherwise-other.ensures (goes_expect _ _ c.expect-closed.ensures))))))) c.push.ensures))
 
-pub while-statement-returns-else-room-eq0 : goal.while-statement-returns-else-room-eq0
-while-statement-returns-else-room-eq0 t c =
+pub while_statement-returns-else-room-eq0 : goal.while_statement-returns-else-room-eq0
+while_statement-returns-else-room-eq0 t c =
     let s = c.args.source.now in
     let rs = c.args.symbols.now in
     let o : On (tag_codes rs) c.args.start (39 ∷ []) = on_by 39 c.in-While.ensures.coded tt tt in
@@ -341,12 +336,12 @@ while-statement-returns-else-room-eq0 t c =
     let b = a.two in
     let u = b.two in
     lays_passed y.one (binary_lays a.one b.one.passed (lays_close {n = 1} u.one u.two.passed 0 (omega arith)) x.two
-    (entry_same c.node.ensures refl (c.next-place-place.ensures ∙ ap (next_place rs) q ∙ ap (place_of rs) (sym y.opened)) (c.next-place-end.ensures ∙ ap (next_place rs) u.came ∙ ap (place_of rs) (sym u.two.index)) (c.root.ensures ∙ ap last_root a.came) (c.root-in-While.ensures ∙ ap last_root u.came ∙ ap (λ m. m - 1) (sym u.two.passed.used))) 0 (omega arith)))
+    (entry_same c.node.ensures refl (c.next_place-place.ensures ∙ ap (next_place rs) q ∙ ap (place_of rs) (sym y.opened)) (c.next_place-end.ensures ∙ ap (next_place rs) u.came ∙ ap (place_of rs) (sym u.two.index)) (c.root.ensures ∙ ap last_root a.came) (c.root-in-While.ensures ∙ ap last_root u.came ∙ ap (λ m. m - 1) (sym u.two.passed.used))) 0 (omega arith)))
     (goes_push _ _ (goes_within _ _ (omega arith) c.advance.ensures o
     (goes_seq _ _ (c.expr-condition.ensures _) (goes_seq _ _ (goes_expect _ _ c.expect-begun.ensures) (goes_seq _ _ c.stats-body.ensures (goes_expect _ _ c.expect-closed.ensures))))) c.push.ensures))
 
-pub for-statement-returns-else-room-eq0 : goal.for-statement-returns-else-room-eq0
-for-statement-returns-else-room-eq0 t c =
+pub for_statement-returns-else-room-eq0 : goal.for_statement-returns-else-room-eq0
+for_statement-returns-else-room-eq0 t c =
     let s = c.args.source.now in
     let rs = c.args.symbols.now in
     let o : On (tag_codes rs) c.args.start (15 ∷ []) = on_by 15 c.in-For.ensures.coded tt tt in
@@ -357,12 +352,12 @@ for-statement-returns-else-room-eq0 t c =
     let b = a.two in
     let u = b.two in
     lays_passed y.one (binary_lays a.one b.one.passed (lays_close {n = 1} u.one u.two.passed 0 (omega arith)) x.two
-    (entry_same c.node.ensures refl (c.next-place-place.ensures ∙ ap (next_place rs) q ∙ ap (place_of rs) (sym y.opened)) (c.next-place-end.ensures ∙ ap (next_place rs) u.came ∙ ap (place_of rs) (sym u.two.index)) (c.root.ensures ∙ ap last_root a.came) (c.root-in-For.ensures ∙ ap last_root u.came ∙ ap (λ m. m - 1) (sym u.two.passed.used))) 0 (omega arith)))
+    (entry_same c.node.ensures refl (c.next_place-place.ensures ∙ ap (next_place rs) q ∙ ap (place_of rs) (sym y.opened)) (c.next_place-end.ensures ∙ ap (next_place rs) u.came ∙ ap (place_of rs) (sym u.two.index)) (c.root.ensures ∙ ap last_root a.came) (c.root-in-For.ensures ∙ ap last_root u.came ∙ ap (λ m. m - 1) (sym u.two.passed.used))) 0 (omega arith)))
     (goes_push _ _ (goes_within _ _ (omega arith) c.advance.ensures o
     (goes_seq _ _ (c.control-head.ensures _) (goes_seq _ _ (goes_expect _ _ c.expect-begun.ensures) (goes_seq _ _ c.stats-body.ensures (goes_expect _ _ c.expect-closed.ensures))))) c.push.ensures))
 
-pub repeat-statement-returns-else-room-eq0 : goal.repeat-statement-returns-else-room-eq0
-repeat-statement-returns-else-room-eq0 t c =
+pub repeat_statement-returns-else-room-eq0 : goal.repeat_statement-returns-else-room-eq0
+repeat_statement-returns-else-room-eq0 t c =
     let s = c.args.source.now in
     let rs = c.args.symbols.now in
     let o : On (tag_codes rs) c.args.start (31 ∷ []) = on_by 31 c.in-Repeat.ensures.coded tt tt in
@@ -372,12 +367,12 @@ repeat-statement-returns-else-room-eq0 t c =
     let a = y.two in
     let b = a.two in
     lays_passed y.one (binary_lays a.one b.one.passed b.two x.two
-    (entry_same c.node.ensures refl (c.next-place-place.ensures ∙ ap (next_place rs) q ∙ ap (place_of rs) (sym y.opened)) refl (c.root.ensures ∙ ap last_root a.came) (c.root-in-Repeat.ensures ∙ ap last_root x.came)) 0 (omega arith)))
+    (entry_same c.node.ensures refl (c.next_place-place.ensures ∙ ap (next_place rs) q ∙ ap (place_of rs) (sym y.opened)) refl (c.root.ensures ∙ ap last_root a.came) (c.root-in-Repeat.ensures ∙ ap last_root x.came)) 0 (omega arith)))
     (goes_push _ _ (goes_within _ _ (omega arith) c.advance.ensures o
     (goes_seq _ _ c.stats-body.ensures (goes_seq _ _ (goes_expect _ _ c.expect-ended.ensures) (c.expr-condition.ensures _)))) c.push.ensures))
 
-pub loop-statement-returns-else-room-eq0 : goal.loop-statement-returns-else-room-eq0
-loop-statement-returns-else-room-eq0 t c =
+pub loop_statement-returns-else-room-eq0 : goal.loop_statement-returns-else-room-eq0
+loop_statement-returns-else-room-eq0 t c =
     let s = c.args.source.now in
     let rs = c.args.symbols.now in
     let o : On (tag_codes rs) c.args.start (21 ∷ []) = on_by 21 c.in-Loop.ensures.coded tt tt in
@@ -386,6 +381,6 @@ loop-statement-returns-else-room-eq0 t c =
     let y = x.one in
     let a = y.two in
     unary_lays {m = 1} {n = 1} y.one a.one a.two.passed x.two
-    (entry_same c.node.ensures refl (c.next-place-place.ensures ∙ ap (next_place rs) q ∙ ap (place_of rs) (sym y.opened)) (c.next-place-end.ensures ∙ ap (next_place rs) a.came ∙ ap (place_of rs) (sym a.two.index)) (c.root.ensures ∙ ap last_root a.came) refl) 0 (omega arith))
+    (entry_same c.node.ensures refl (c.next_place-place.ensures ∙ ap (next_place rs) q ∙ ap (place_of rs) (sym y.opened)) (c.next_place-end.ensures ∙ ap (next_place rs) a.came ∙ ap (place_of rs) (sym a.two.index)) (c.root.ensures ∙ ap last_root a.came) refl) 0 (omega arith))
     (goes_push _ _ (goes_within _ _ (omega arith) c.advance.ensures o
     (goes_seq _ _ c.stats-body.ensures (goes_expect _ _ c.expect-closed.ensures))) c.push.ensures))

@@ -8,26 +8,26 @@ decreases-stats l = remaining l.symbols.now l.start * 16 + 12
 abbrev pub decreases-stat : goal.decreases-stat
 decreases-stat l = remaining l.symbols.now l.start * 16 + 11
 
-abbrev pub decreases-more-stats : goal.decreases-more-stats
-decreases-more-stats l = remaining l.symbols.now l.before * 16 + 5
+abbrev pub decreases-more_stats : goal.decreases-more_stats
+decreases-more_stats l = remaining l.symbols.now l.before * 16 + 5
 
-abbrev pub decreases-if-statement : goal.decreases-if-statement
-decreases-if-statement l = remaining l.symbols.now l.start * 16 + 8
+abbrev pub decreases-if_statement : goal.decreases-if_statement
+decreases-if_statement l = remaining l.symbols.now l.start * 16 + 8
 
-abbrev pub decreases-while-statement : goal.decreases-while-statement
-decreases-while-statement l = remaining l.symbols.now l.start * 16 + 8
+abbrev pub decreases-while_statement : goal.decreases-while_statement
+decreases-while_statement l = remaining l.symbols.now l.start * 16 + 8
 
-abbrev pub decreases-repeat-statement : goal.decreases-repeat-statement
-decreases-repeat-statement l = remaining l.symbols.now l.start * 16 + 8
+abbrev pub decreases-repeat_statement : goal.decreases-repeat_statement
+decreases-repeat_statement l = remaining l.symbols.now l.start * 16 + 8
 
-abbrev pub decreases-loop-statement : goal.decreases-loop-statement
-decreases-loop-statement l = remaining l.symbols.now l.start * 16 + 8
+abbrev pub decreases-loop_statement : goal.decreases-loop_statement
+decreases-loop_statement l = remaining l.symbols.now l.start * 16 + 8
 
-abbrev pub decreases-for-statement : goal.decreases-for-statement
-decreases-for-statement l = remaining l.symbols.now l.start * 16 + 8
+abbrev pub decreases-for_statement : goal.decreases-for_statement
+decreases-for_statement l = remaining l.symbols.now l.start * 16 + 8
 
-abbrev pub decreases-more-arms : goal.decreases-more-arms
-decreases-more-arms l = remaining l.symbols.now l.before * 16 + 3
+abbrev pub decreases-more_arms : goal.decreases-more_arms
+decreases-more_arms l = remaining l.symbols.now l.before * 16 + 3
 
 abbrev pub decreases-otherwise : goal.decreases-otherwise
 decreases-otherwise l = remaining l.symbols.now l.before * 16 + 1
