@@ -209,23 +209,11 @@ fn array(
 {
     let place = next_place(symbols, start);
     let begun = expect(symbols, start, Tag::Array);
-    let square = next_place(symbols, begun);
     let opened = expect(symbols, begun, Tag::OpenSquare);
     let first = elem(source, symbols, opened, tree);
     let to = expect(symbols, first, Tag::Range);
     let last = elem(source, symbols, to, tree);
-    let bounds = push(
-        tree,
-        last,
-        node(
-            NodeKind::Bounds,
-            Tag::EndOfSource,
-            square,
-            0,
-            root(first),
-            root(last),
-        ),
-    );
+    let bounds = push(tree, last, bare(NodeKind::Bounds, root(first), root(last)));
     let closed = expect(symbols, bounds, Tag::CloseSquare);
     let of = expect(symbols, closed, Tag::Of);
     let kind = name(source, symbols, of, tree);

@@ -18,9 +18,9 @@ returns c d e =
     let u = z.two in
     let m = u.two in
     let l = binary_lays f.one y.one.passed z.one.one z.one.two
-    (entry_same c.node.ensures refl (c.next_place-square.ensures ∙ ap (next_place rs) a.came ∙ ap (place_of rs) (sym b.one.index)) refl (c.root.ensures ∙ ap last_root f.came) (c.root-2.ensures ∙ ap last_root z.one.came)) 0 (omega arith) in
+    (entry_same c.bare.ensures refl refl refl (c.root.ensures ∙ ap last_root f.came) (c.root-2.ensures ∙ ap last_root z.one.came)) 0 (omega arith) in
     lays_passed (passed_both a.one.passed b.one.passed)
     (binary_lays l (passed_both u.one.passed m.one.passed) m.two x.two
-    (entry_same c.node-2.ensures refl (c.next_place-place.ensures ∙ ap (next_place rs) (q) ∙ ap (place_of rs) (sym a.one.index)) refl (c.root-3.ensures ∙ ap last_root z.came) (c.root-4.ensures ∙ ap last_root x.came)) 0 (omega arith)))
+    (entry_same c.node.ensures refl (c.next_place-place.ensures ∙ ap (next_place rs) (q) ∙ ap (place_of rs) (sym a.one.index)) refl (c.root-3.ensures ∙ ap last_root z.came) (c.root-4.ensures ∙ ap last_root x.came)) 0 (omega arith)))
     (goes_push _ _ (goes_seq _ _ (goes_expect _ _ c.expect-begun.ensures) (goes_seq _ _ (goes_expect _ _ c.expect-opened.ensures) (goes_seq _ _ (c.elem-first.ensures d e) (goes_seq _ _ (goes_expect _ _ c.expect-to.ensures)
     (goes_seq _ _ (goes_push _ _ (c.elem-last.ensures d e) c.push-bounds.ensures) (goes_seq _ _ (goes_expect _ _ c.expect-closed.ensures) (goes_seq _ _ (goes_expect _ _ c.expect-of.ensures) (c.name-kind.ensures d e)))))))) c.push.ensures)
