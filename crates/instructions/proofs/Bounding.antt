@@ -1,14 +1,12 @@
 -- Every executed instruction goes to a higher index, or is a turn: so turns bound how many there are.
-use Rattle.std.proofs.Common.{◌≡◌, ℕ, zero, suc, ◌+◌, ◌*◌, ◌<◌, ◌≤◌, min, Bool, true, false, cond, eqb, ltb, List, [], ◌∷◌, length, take, ℤ, Some, None, Ok, Err, Option, Result, sym, refl, ap, ◌∙◌, subst, arith, length-take}
-use Rattle.std.proofs.lemmas.Bool.{ltb-true, ltb-false}
+use Rattle.std.proofs.Common.{◌≡◌, ℕ, zero, suc, ◌+◌, ◌*◌, ◌<◌, ◌≤◌, min, Bool, true, false, cond, eqb, ltb, List, [], ◌∷◌, length, take, ℤ, Some, None, Ok, Err, Option, Result, refl, ap, ◌∙◌, arith, length-take}
+use Rattle.std.proofs.lemmas.Bool.{ltb-true}
 use Rattle.ports.specs.Calls.{take_answer, set_answer, feed_after}
-use Rattle.ports.specs.Channels.{Meaning}
 use Rattle.instructions.specs.declared.answers.Status.{Status}
 use Rattle.instructions.specs.declared.answers.Status.TheVariants.{Running, Ended, Trapped, Broken}
-use Rattle.instructions.specs.declared.instruction.Instruction.{Instruction}
 use Rattle.instructions.specs.State.{State}
-use Rattle.instructions.specs.Steps.{View, Effect, went, takes, sets, breaks, stops, Move, gone, did, halted, met, stepped, going, fetched, effect, none, step, Run, run, onward, took_or_waits, set_or_not, with_parts, loaded}
-use Rattle.instructions.specs.Laws.{turn, turned, turns, Call, feed, go, Total, total, TurnsBound}
+use Rattle.instructions.specs.Steps.{View, Effect, went, takes, sets, breaks, stops, Move, gone, did, halted, met, going, step, run, onward, took_or_waits, set_or_not, with_parts, loaded}
+use Rattle.instructions.specs.Laws.{turn, turned, turns, Call, feed, go, total, TurnsBound}
 
 abbrev level_by : Status → ℕ → ℕ
 level_by Running p = min p 4096

@@ -1,10 +1,9 @@
 -- Runs one after the other.
-use Rattle.std.proofs.Common.{◌≡◌, ℕ, zero, suc, ◌+◌, ◌-◌, ◌<◌, List, [], ◌∷◌, ◌++◌, ℤ, Some, None, Ok, Err, Option, Result, sym, refl, ap, ◌∙◌, ap₂, append_assoc, add_assoc, suc-add, zero-add, arith}
+use Rattle.std.proofs.Common.{◌≡◌, ℕ, zero, suc, ◌+◌, ◌<◌, List, [], ◌∷◌, ◌++◌, ℤ, Some, None, Ok, Err, Option, Result, sym, refl, ap, ◌∙◌, ap₂, append_assoc, add_assoc, suc-add, zero-add, arith}
 use Rattle.ports.specs.Calls.{take_answer, set_answer}
 use Rattle.ports.specs.Events.{Event}
 use Rattle.instructions.specs.declared.answers.Outcome.{Outcome}
-use Rattle.instructions.specs.declared.answers.Status.TheVariants.{Broken}
-use Rattle.instructions.specs.State.{State, became}
+use Rattle.instructions.specs.State.{State}
 use Rattle.instructions.specs.Steps.{View, Effect, went, takes, sets, breaks, stops, Move, gone, did, halted, met, stepped, step, Run, run, more, onward, nothing, took_or_waits, set_or_not}
 use Rattle.instructions.specs.Laws.{RunsCompose}
 

@@ -1,11 +1,11 @@
 -- Feeding commutes with executing.
-use Rattle.std.proofs.Common.{◌≡◌, ℕ, zero, suc, ◌+◌, Bool, true, false, cond, ltb, List, [], ◌∷◌, ℤ, Some, None, Ok, Err, Option, Result, sym, refl, ap, ◌∙◌, subst, arith}
-use Rattle.ports.specs.Calls.{take_answer, take_after, set_answer, oldest}
+use Rattle.std.proofs.Common.{◌≡◌, ℕ, zero, suc, Bool, true, false, cond, ltb, [], ◌∷◌, ℤ, Some, None, Ok, Err, Option, Result, sym, refl, ap, ◌∙◌, subst, arith}
+use Rattle.ports.specs.Calls.{take_answer, set_answer, oldest}
 use Rattle.ports.specs.Events.{took, set_to}
 use Rattle.ports.specs.Samples.{Sample, joined}
 use Rattle.ports.proofs.Joining.{joined_sets, joined_finds, joined_takes}
 use Rattle.instructions.specs.State.{State}
-use Rattle.instructions.specs.Steps.{View, Effect, went, takes, sets, breaks, stops, Move, gone, did, halted, met, stepped, step, Run, run, more, onward, took_or_waits, set_or_not, delivered, with_parts}
+use Rattle.instructions.specs.Steps.{View, Effect, went, takes, sets, breaks, stops, Move, gone, did, halted, met, stepped, step, run, more, onward, took_or_waits, set_or_not, delivered, with_parts}
 use Rattle.instructions.specs.Laws.{joining, joined_run, FeedingCommutes}
 
 -- a step that was executed

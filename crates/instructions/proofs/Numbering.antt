@@ -1,10 +1,10 @@
 -- The table has each operation at its number.
-use Rattle.std.proofs.Common.{◌≡◌, ℕ, zero, suc, ◌+◌, ◌<◌, Bool, true, false, cond, ltb, List, [], ◌∷◌, map, length, get_or, sym, refl, ap, ◌∙◌, add-zero, arith}
+use Rattle.std.proofs.Common.{◌≡◌, ℕ, zero, suc, ◌+◌, ◌<◌, Bool, true, false, cond, ltb, List, [], ◌∷◌, map, get_or, sym, refl, ap, ◌∙◌, add-zero, arith}
 use Rattle.std.proofs.lemmas.List.{get_or-map}
 use Rattle.std.proofs.lemmas.Bool.{ltb-true}
 use Rattle.instructions.specs.declared.operation.Operation.TheVariants.{End, Other}
 use Rattle.instructions.specs.Laws.{NumbersReturn}
-use Rattle.instructions.specs.Numbers.{number_of, operation_of, table}
+use Rattle.instructions.specs.Numbers.{number_of, table}
 
 -- k numbers from n on
 rising : ℕ → ℕ → List ℕ

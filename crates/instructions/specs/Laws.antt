@@ -1,5 +1,5 @@
 -- Laws over runs.
-use Rattle.std.specs.Prelude.{◌≡◌, ℕ, zero, suc, ◌+◌, ◌*◌, ◌<◌, ◌≤◌, cond, List, [], ◌∷◌, ◌++◌, length, ℤ, ◌==◌, nat_lt}
+use Rattle.std.specs.Prelude.{◌≡◌, ℕ, zero, suc, ◌+◌, ◌*◌, ◌<◌, ◌≤◌, cond, List, [], ◌∷◌, length, ℤ, ◌==◌, nat_lt}
 use Rattle.ports.specs.Calls.{feed_after}
 use Rattle.ports.specs.Channels.{Meaning}
 use Rattle.ports.specs.Samples.{Sample, joined}

@@ -1,9 +1,9 @@
 -- What operations are made of: words taken, left, read and stored, activations opened and closed.
-use Rattle.std.specs.Prelude.{ℕ, ◌+◌, Bool, true, false, cond, List, [], ◌∷◌, ◌++◌, reverse, length, take, drop, replicate, ℤ, pos, negsuc, Some, None, Ok, Err, Option, Result, nat_le, nat_lt, slice_index_or, slice_set}
+use Rattle.std.specs.Prelude.{ℕ, ◌+◌, cond, List, [], ◌∷◌, ◌++◌, reverse, length, take, drop, replicate, ℤ, pos, Ok, Err, Result, nat_le, nat_lt, slice_index_or, slice_set}
 use Rattle.instructions.specs.declared.answers.Fault.{Fault}
 use Rattle.instructions.specs.declared.answers.Fault.TheVariants.{Broken, Trap}
 use Rattle.instructions.specs.declared.answers.Trap.TheVariants.{Activations}
-use Rattle.instructions.specs.State.{Words, Caller, State, size, activation_words, global_words, most_open, storing, operating, varying, nesting, at}
+use Rattle.instructions.specs.State.{Caller, State, size, activation_words, global_words, most_open, storing, operating, varying, nesting, at}
 
 -- what an operation, or a part of one, gives, and the state then
 pub record Done (X : Type 0) : Type 0 where

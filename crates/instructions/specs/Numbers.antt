@@ -1,5 +1,5 @@
 -- The number of each operation, and what each asks of the port.
-use Rattle.std.specs.Prelude.{ℕ, ◌+◌, cond, List, [], ◌∷◌, length, nat_lt, slice_index_or}
+use Rattle.std.specs.Prelude.{ℕ, cond, List, [], ◌∷◌, length, nat_lt, slice_index_or}
 use Rattle.instructions.specs.declared.answers.PortCall.{PortCall}
 use Rattle.instructions.specs.declared.answers.PortCall.TheVariants.{None as Nothing, Take as TakeCall, Set as SetCall}
 use Rattle.instructions.specs.declared.operation.Operation.{Operation}

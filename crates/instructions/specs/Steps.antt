@@ -1,5 +1,5 @@
 -- A board with its port: one step, and a run of at most so many instructions.
-use Rattle.std.specs.Prelude.{ℕ, zero, suc, ◌+◌, Bool, cond, List, [], ◌∷◌, ◌++◌, length, take as first, ℤ, Some, None, Ok, Err, Option, Result, nat_lt, slice_index_or}
+use Rattle.std.specs.Prelude.{ℕ, zero, suc, ◌+◌, cond, List, [], ◌∷◌, ◌++◌, length, take as first, ℤ, Some, None, Ok, Err, Option, Result, nat_lt, slice_index_or}
 use Rattle.ports.specs.Calls.{take_answer, take_after, set_answer, set_after}
 use Rattle.ports.specs.Channels.{Meaning}
 use Rattle.ports.specs.Events.{Event, took, set_to}
@@ -13,7 +13,7 @@ use Rattle.instructions.specs.declared.answers.Status.{Status}
 use Rattle.instructions.specs.declared.answers.Status.TheVariants.{Running, Ended, Trapped, Broken}
 use Rattle.instructions.specs.declared.instruction.Instruction.{Instruction}
 use Rattle.instructions.specs.declared.operation.Operation.TheVariants.{End}
-use Rattle.instructions.specs.Moves.{Done, replace}
+use Rattle.instructions.specs.Moves.{replace}
 use Rattle.instructions.specs.Numbers.{asks}
 use Rattle.instructions.specs.State.{State, became, on, start}
 use Rattle.instructions.specs.Table.{obeyed, take, put}

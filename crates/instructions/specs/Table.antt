@@ -1,5 +1,5 @@
 -- The table: what each operation does to a board's memory. Take and Put go on to call the port.
-use Rattle.std.specs.Prelude.{ℕ, ◌+◌, ◌/◌, ◌%◌, Bool, true, false, cond, not, List, [], ◌∷◌, ℤ, pos, ◌+ℤ◌, ◌-ℤ◌, ◌*ℤ◌, neg_ℤ, Some, None, Option, int_le, int_lt, nat_lt, unsigned_abs}
+use Rattle.std.specs.Prelude.{ℕ, ◌/◌, ◌%◌, Bool, cond, not, ℤ, pos, ◌+ℤ◌, ◌-ℤ◌, ◌*ℤ◌, neg_ℤ, Some, None, Option, int_le, int_lt, nat_lt, unsigned_abs}
 use Rattle.integer.specs.Division.{divided}
 use Rattle.integer.specs.Ends.{integer, within, kept}
 use Rattle.integer.specs.Sets.{elements, has, union_of, intersection_of, difference_of, including, excluding, if_element}
@@ -9,7 +9,7 @@ use Rattle.instructions.specs.declared.answers.Trap.{Trap}
 use Rattle.instructions.specs.declared.answers.Trap.TheVariants.{Range, Divisor, Index as IndexTrap, Channel as ChannelTrap, Element as ElementTrap, NoResult as NoResultTrap}
 use Rattle.instructions.specs.declared.operation.Operation.{Operation}
 use Rattle.instructions.specs.declared.operation.Operation.TheVariants.{End, Integer, Set, Global, StoreGlobal, Local, StoreLocal, Index, GlobalElement, StoreGlobalElement, LocalElement, StoreLocalElement, Copy, Swap, Add, Subtract, Multiply, Divide, Modulo, Negate, Absolute, Odd, Equal, Unequal, Less, LessEqual, Greater, GreaterEqual, Not, Union, Difference, Intersection, Element, In, Include, Exclude, Jump, JumpIf, JumpUnless, Advance, Channel, Take, Put, Call, Enter, Return, ReturnValue, NoResult, Other}
-use Rattle.instructions.specs.Moves.{Done, ok, fail, then, next, pull, push, operand, variable, store_variable, global, store_global, open_activation, make_variables, close_activation}
+use Rattle.instructions.specs.Moves.{Done, ok, fail, then, pull, push, operand, variable, store_variable, global, store_global, open_activation, make_variables, close_activation}
 use Rattle.instructions.specs.State.{State, became, at}
 use Rattle.instructions.specs.Values.{truth, signed, same, natural, quotient, remainder, odd, goes_on, following, channel_numbers}
 

@@ -1,8 +1,7 @@
 -- What operations make of the values that they take.
-use Rattle.std.specs.Prelude.{ℕ, ◌-◌, Bool, true, false, cond, not, ◌&&◌, ℤ, pos, negsuc, ◌+ℤ◌, ◌-ℤ◌, Some, None, Option, int_le, nat_lt}
-use Rattle.std.specs.Int.Signed.{lt_z}
+use Rattle.std.specs.Prelude.{ℕ, Bool, false, cond, ◌&&◌, ℤ, pos, negsuc, ◌+ℤ◌, ◌-ℤ◌, Some, None, Option, int_le, nat_lt}
 use Rattle.integer.specs.Division.{divided}
-use Rattle.integer.specs.Ends.{Ends, within}
+use Rattle.integer.specs.Ends.{Ends}
 
 -- the channels of a port
 abbrev pub channel_numbers : Ends

@@ -1,11 +1,11 @@
 -- What stands at a place, by its first byte.
-use Rattle.std.proofs.Common.{◌≡◌, ℕ, ◌+◌, ◌-◌, ◌<◌, ◌≤◌, Bool, true, false, cond, ◌||◌, eqb, List, [], ◌∷◌, length, get_or, take, drop, ℤ, Some, None, Ok, Err, Option, Result, sym, refl, ap, ◌∙◌, arith, ne_eqb}
+use Rattle.std.proofs.Common.{◌≡◌, ℕ, ◌+◌, ◌-◌, ◌<◌, ◌≤◌, Bool, true, false, cond, ◌||◌, List, [], ◌∷◌, length, get_or, take, drop, ℤ, Some, None, Ok, Err, Option, Result, sym, refl, ap, ◌∙◌, arith, ne_eqb}
 use Rattle.std.proofs.lemmas.List.{drop_more, at_drop_all, take_rest, length-take, length-drop}
 use Rattle.faults.specs.declared.kind.FaultKind.{FaultKind}
 use Rattle.faults.specs.declared.kind.Fault.{Fault}
 use Rattle.vocabulary.specs.declared.tag.Tag.{Tag}
 use Rattle.vocabulary.specs.declared.tag.Tag.TheVariants.{EndOfSource}
-use Rattle.vocabulary.specs.Characters.{letter, digit, alphanumeric, run}
+use Rattle.vocabulary.specs.Characters.{letter, digit, run}
 use Rattle.vocabulary.specs.Tags.{word_tag}
 use Rattle.vocabulary.specs.Numbers.{number_value, judged}
 use Rattle.vocabulary.specs.Signs.{single, double, narrow, wide, sign_of}

@@ -6,7 +6,7 @@ use Rattle.faults.specs.declared.kind.Fault.{Fault}
 use Rattle.lexer.specs.declared.symbol.Lead.{Lead}
 use Rattle.lexer.specs.declared.symbol.Lead.TheVariants.{Done, Open, Nest, Close, Pass, Stop}
 use Rattle.vocabulary.specs.Characters.{separator}
-use Rattle.lexer.specs.Leads.{lead_of, passing, opens, closes}
+use Rattle.lexer.specs.Leads.{lead_of, opens, closes}
 use Rattle.lexer.specs.Scan.{skipped, fault}
 
 abbrev pub ended : ℕ → ℕ → ℕ → Result ℕ Fault

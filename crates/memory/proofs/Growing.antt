@@ -1,8 +1,8 @@
 -- Operands that are 0, one after the other, and variables made of them.
-use Rattle.std.proofs.Common.{◌≡◌, ℕ, zero, suc, ◌+◌, ◌<◌, ◌≤◌, true, cond, ltb, leb, List, [], ◌∷◌, ◌++◌, reverse, length, replicate, ℤ, pos, sym, refl, ap, ◌∙◌, add-one, arith, length-append}
+use Rattle.std.proofs.Common.{◌≡◌, ℕ, zero, suc, ◌+◌, ◌<◌, ◌≤◌, ltb, [], ◌∷◌, ◌++◌, reverse, replicate, ℤ, pos, sym, refl, ap, ◌∙◌, add-one, arith, length-append}
 use Rattle.std.proofs.lemmas.List.{length-replicate, reverse-append, replicate_more}
 use Rattle.std.proofs.lemmas.Bool.{lt-ltb, le-leb, cond-true}
-use Rattle.instructions.specs.State.{State, Words, size, operating}
+use Rattle.instructions.specs.State.{State, size, operating}
 use Rattle.instructions.specs.Moves.{ok, push, make_variables}
 use Rattle.memory.specs.Seen.{promoted}
 

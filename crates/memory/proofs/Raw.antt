@@ -1,13 +1,13 @@
 -- Words taken, left, read and stored, in terms of a memory's fields.
-use Rattle.std.proofs.Common.{◌≡◌, ℕ, zero, suc, ◌+◌, ◌-◌, ◌*◌, ◌<◌, ◌≤◌, Bool, true, false, cond, ltb, leb, ◌≢◌, ◌⊎◌, List, [], ◌∷◌, ◌++◌, reverse, length, get_or, take, drop, set, ℤ, pos, Ok, Err, sym, refl, ap, ◌∙◌, subst, ap₂, inl, inr, add-one, arith, length-drop, length-set}
+use Rattle.std.proofs.Common.{◌≡◌, ℕ, zero, suc, ◌+◌, ◌-◌, ◌<◌, ◌≤◌, true, ltb, leb, List, [], ◌∷◌, ◌++◌, reverse, length, get_or, take, drop, set, ℤ, pos, sym, refl, ap, ◌∙◌, ap₂, inl, inr, add-one, arith, length-drop}
 use Rattle.std.proofs.lemmas.List.{get_or-set_same, get_or-drop, get_or-take, length-take-le, drop-set-add, drop-drop}
 use Rattle.std.proofs.lemmas.Bool.{lt-ltb, le-ltb, le-leb, lt-leb, cond-true, cond-false}
 use Rattle.instructions.specs.declared.answers.Fault.{Fault}
 use Rattle.instructions.specs.declared.answers.Fault.TheVariants.{Broken, Trap}
 use Rattle.instructions.specs.declared.answers.Trap.TheVariants.{Activations}
 use Rattle.instructions.specs.declared.answers.Status.{Status}
-use Rattle.instructions.specs.State.{State, Words, Caller, size, operating, varying}
-use Rattle.instructions.specs.Moves.{Done, ok, fail, pulled, pull, push, operand, replaced, replace, variable, store_variable, global, store_global, open_activation, close_activation, closed, make_variables}
+use Rattle.instructions.specs.State.{State, size, operating}
+use Rattle.instructions.specs.Moves.{ok, fail, pulled, pull, push, operand, replaced, replace, variable, store_variable, global, store_global, open_activation, close_activation, closed, make_variables}
 use Rattle.memory.specs.declared.activation.Activation.{Activation}
 use Rattle.memory.specs.Seen.{down, words_of, caller_of, callers_of, promoted}
 use Rattle.memory.specs.Nested.{blank}

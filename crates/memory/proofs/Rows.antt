@@ -1,7 +1,6 @@
 -- Words by their indexes: rows that are read from their end, and writes outside of them.
-use Rattle.std.proofs.Common.{◌≡◌, ℕ, zero, suc, ◌+◌, ◌-◌, ◌*◌, ◌<◌, ◌≤◌, Bool, true, false, ◌&&◌, leb, ◌≢◌, ◌⊎◌, List, [], ◌∷◌, ◌++◌, reverse, length, get_or, take, drop, set, ℤ, pos, sym, refl, ap, ◌∙◌, ap₂, inl, inr, add-zero, add_assoc, add-one, arith, length-drop, length-set}
-use Rattle.std.proofs.lemmas.List.{get_or-set_other, get_or-set_same, get_or-drop, get_or-take, take_more, take-set-le, drop-set-lt, drop-set-add, length-take-le, drop-drop, reverse-append}
-use Rattle.instructions.specs.State.{Caller}
+use Rattle.std.proofs.Common.{◌≡◌, ℕ, zero, suc, ◌+◌, ◌-◌, ◌*◌, ◌<◌, ◌≤◌, Bool, true, ◌&&◌, ◌≢◌, ◌⊎◌, List, [], ◌∷◌, ◌++◌, reverse, length, get_or, take, drop, set, ℤ, pos, sym, refl, ap, ◌∙◌, ap₂, inl, inr, add-one, arith, length-drop}
+use Rattle.std.proofs.lemmas.List.{get_or-set_other, get_or-drop, take_more, take-set-le, drop-set-lt, drop-set-add, reverse-append}
 use Rattle.memory.specs.declared.activation.Activation.{Activation}
 use Rattle.std.proofs.lemmas.Bool.{and_parts, leb-true, le-leb}
 use Rattle.memory.specs.Nested.{blank, nested}

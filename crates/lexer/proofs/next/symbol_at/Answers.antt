@@ -1,5 +1,5 @@
-use Rattle.std.proofs.Common.{◌≡◌, ◌+◌, ◌-◌, length, drop, Ok, sym, refl, ap, ◌∙◌, arith, rules}
-use Rattle.std.proofs.lemmas.List.{take_rest, length-take, length-drop}
+use Rattle.std.proofs.Common.{◌≡◌, ◌+◌, ◌-◌, length, drop, Ok, sym, ap, ◌∙◌, arith, rules}
+use Rattle.std.proofs.lemmas.List.{length-take, length-drop}
 use Rattle.lexer.specs.Scan.{seen, symbol_at}
 use Rattle.lexer.proofs.Fronts.{sized, has_text, stretch_length, at_word, at_number, at_sign, at_end}
 use Rattle.lexer.proofs.next.symbol_at.Goals as goal

@@ -1,7 +1,7 @@
-use Rattle.std.proofs.Common.{◌≡◌, ◌+◌, ◌-◌, ◌<◌, length, take, drop, set, Ok, sym, ap, ◌∙◌, arith}
+use Rattle.std.proofs.Common.{◌+◌, ◌-◌, ◌<◌, take, set, Ok, sym, ap, ◌∙◌, arith}
 use Rattle.std.proofs.lemmas.Result.{err_from_is_err_and}
 use Rattle.std.proofs.lemmas.List.{append-nil, drop-set-lt}
-use Rattle.lexer.specs.Scan.{symbol_limit, symbols_from, end_of, seen}
+use Rattle.lexer.specs.Scan.{symbol_limit, symbols_from, seen}
 use Rattle.lexer.specs.Records.{recorded}
 use Rattle.lexer.proofs.Turns.{behind, faulty, ended, no_room, turn, later, kept_none, kept_some}
 use Rattle.lexer.proofs.records.fill.Goals as goal

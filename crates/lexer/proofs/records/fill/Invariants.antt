@@ -1,4 +1,4 @@
-use Rattle.std.proofs.Common.{◌≡◌, ◌-◌, ◌≤◌, length, take, drop}
+use Rattle.std.proofs.Common.{◌≡◌, ◌-◌, ◌≤◌, take, drop}
 use Rattle.lexer.specs.Scan.{symbols_from, symbols_of, symbol_limit}
 use Rattle.lexer.specs.Records.{recorded}
 use Rattle.lexer.proofs.Turns.{behind}

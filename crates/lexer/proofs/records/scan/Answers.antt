@@ -1,4 +1,4 @@
-use Rattle.std.proofs.Common.{◌≡◌, ℕ, ◌≤◌, ltb, List, length, take, drop, Ok, Err, sym, refl, ap, ◌∙◌, arith, rules, le-ltb}
+use Rattle.std.proofs.Common.{◌≡◌, ℕ, ◌≤◌, List, length, take, drop, Ok, Err, sym, refl, ap, ◌∙◌, arith, rules, le-ltb}
 use Rattle.std.proofs.lemmas.List.{length-take, take-append-drop}
 use Rattle.faults.specs.declared.kind.Fault.{Fault}
 use Rattle.lexer.specs.declared.symbol.SymbolRecord.{SymbolRecord}

@@ -1,8 +1,5 @@
-use Rattle.std.proofs.Common.{◌≡◌, ◌+◌, ◌-◌, ◌*◌, ◌<◌, ◌≤◌, length, get_or, set, ℤ, pos, sym, refl, ap, ◌∙◌, arith, w32, SFits, rules}
-use Rattle.std.proofs.lemmas.Int.{to_z-of_z}
-use Rattle.instructions.specs.Moves.{ok}
+use Rattle.std.proofs.Common.{◌+◌, ◌≤◌, length, rules}
 use Rattle.memory.specs.Seen.{seen}
-use Rattle.memory.proofs.Rows.{nested_fact}
 use Rattle.memory.proofs.Raw.{promote_all}
 use Rattle.memory.proofs.store.Memory.promote.Goals as goal
 

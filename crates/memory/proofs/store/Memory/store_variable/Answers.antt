@@ -1,6 +1,5 @@
-use Rattle.std.proofs.Common.{◌≡◌, ◌+◌, ◌-◌, ◌*◌, ◌<◌, ◌≤◌, length, get_or, set, ℤ, pos, sym, refl, ap, ◌∙◌, arith, w32, SFits, rules}
+use Rattle.std.proofs.Common.{◌+◌, ◌≤◌, length, w32, rules}
 use Rattle.std.proofs.lemmas.Int.{to_z-of_z}
-use Rattle.instructions.specs.Moves.{ok}
 use Rattle.memory.specs.Seen.{seen}
 use Rattle.memory.proofs.Rows.{nested_fact}
 use Rattle.memory.proofs.Raw.{store_absent, store_there}

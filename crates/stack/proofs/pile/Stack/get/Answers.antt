@@ -1,4 +1,3 @@
-use Rattle.std.proofs.Common.{rules}
 use Rattle.stack.proofs.Slots.{read_first}
 use Rattle.stack.proofs.pile.Stack.get.Goals as goal
 

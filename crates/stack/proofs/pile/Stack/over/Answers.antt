@@ -1,4 +1,4 @@
-use Rattle.std.proofs.Common.{refl, rules}
+use Rattle.std.proofs.Common.{refl}
 use Rattle.stack.proofs.Slots.{take_least}
 use Rattle.stack.proofs.pile.Stack.over.Goals as goal
 
