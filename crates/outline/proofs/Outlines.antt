@@ -1,5 +1,5 @@
 -- The lines of a stored tree, by its root's record.
-use Rattle.std.proofs.Common.{◌≡◌, ℕ, suc, ◌+◌, ◌<◌, List, ◌++◌, length, get_or, sym, refl, ap, ◌∙◌, subst, ap₂, append_assoc, arith}
+use Rattle.std.proofs.Common.{◌≡◌, ℕ, suc, ◌+◌, ◌<◌, List, ◌++◌, length, get_or, sym, ap, ◌∙◌, subst, ap₂, append_assoc, arith}
 use Rattle.syntax.specs.declared.tree.TreeRecord.{TreeRecord}
 use Rattle.syntax.specs.Syntax.{Syntax, leaf, unary, binary, size, parts, Shaped}
 use Rattle.parser.specs.Parsing.{Stored, zero_node}

@@ -1,8 +1,8 @@
 -- The lines of an outline: which records are shown, in what order and how deep.
-use Rattle.std.specs.Prelude.{ℕ, suc, ◌+◌, Bool, true, false, cond, List, [], ◌∷◌, ◌++◌}
+use Rattle.std.specs.Prelude.{ℕ, ◌+◌, Bool, true, false, cond, List, [], ◌∷◌, ◌++◌}
 use Rattle.syntax.specs.declared.tree.NodeKind.{NodeKind}
 use Rattle.syntax.specs.declared.tree.NodeKind.TheVariants as kind
-use Rattle.syntax.specs.Syntax.{Syntax, leaf, unary, binary, Label, size}
+use Rattle.syntax.specs.Syntax.{Syntax, leaf, unary, binary, size}
 use Rattle.outline.specs.declared.order.Line.{Line}
 
 -- a node that only joins others, or stands for nothing
