@@ -3,7 +3,7 @@ use Rattle.std.proofs.Common.{◌≡◌, ℕ, suc, ◌+◌, ◌<◌, ◌≤◌, 
 use mathlib.Core.Option.{some}
 use lib.ListN.{get_elem?}
 use Rattle.std.proofs.lemmas.List.{get_or_append_left, set-append_left}
-use Rattle.std.specs.List.{AllByRecursion as All}
+use Rattle.std.specs.List.{AllByRecursion}
 use Rattle.integer.specs.Ends.{integer, Within}
 use Rattle.ports.specs.Calls.{changed, oldest, newer}
 use Rattle.ports.specs.Channels.{Channel, Meaning}
@@ -30,7 +30,7 @@ use Rattle.agreement.proofs.Encoding.{signed_encoded, signed_truth, signed_set}
 
 -- the samples that wait are INTEGERs
 abbrev pub Samples : Meaning → Type 0
-Samples m = (c : ℕ) → All Integer (m c).waiting
+Samples m = (c : ℕ) → AllByRecursion Integer (m c).waiting
 
 -- a board in the middle of a block: its words are those of the meaning, then hidden ones
 abbrev pub mk : Program → List Instruction → List Caller → List ℤ → ℕ → List ℤ → State → List Mark → Traced
@@ -155,18 +155,18 @@ trapped {k} {i} {x} hid g h f =
     stops (record { credit = k; thin = g.thin; globals = refl; answer = answer.Trap x i.place; halts = refl; shows = refl }) (go (traps h f) here)
 
 -- events
-all_newer : (P : ℤ → Type 0) (l : List ℤ) → All P l → All P (newer l)
+all_newer : (P : ℤ → Type 0) (l : List ℤ) → AllByRecursion P l → AllByRecursion P (newer l)
 all_newer P [] h = h
 all_newer P (x ∷ l) h = h.1
 
-changed_samples : (m : Meaning) (c : ℕ) (ch : Channel) → Samples m → All Integer ch.waiting → Samples (changed m c ch)
+changed_samples : (m : Meaning) (c : ℕ) (ch : Channel) → Samples m → AllByRecursion Integer ch.waiting → Samples (changed m c ch)
 changed_samples m c ch h k j = by_range (ltb c 16)
   where
-    by_channel : (b : Bool) → All Integer (cond b ch (m j)).waiting
+    by_channel : (b : Bool) → AllByRecursion Integer (cond b ch (m j)).waiting
     by_channel true = k
     by_channel false = h j
 
-    by_range : (b : Bool) → All Integer (cond b (λ i. cond (eqb i c) ch (m i)) m j).waiting
+    by_range : (b : Bool) → AllByRecursion Integer (cond b (λ i. cond (eqb i c) ch (m i)) m j).waiting
     by_range true = by_channel (eqb j c)
     by_range false = h j
 
@@ -178,6 +178,6 @@ module _ {P : Program} {B : Block} {below : List (List ℤ)} {k : ℕ} {t : List
   pub sample_value : (c : ℕ) (z : ℤ) → oldest (σ.port c).waiting ≡ Some z → Good P B below k t σ → Value INTEGER z
   sample_value c z e g = first_of (σ.port c).waiting e (g.samples c)
     where
-      first_of : (l : List ℤ) → oldest l ≡ Some z → All Integer l → Within integer z
+      first_of : (l : List ℤ) → oldest l ≡ Some z → AllByRecursion Integer l → Within integer z
       first_of [] q h = absurd (let z : ◌≡◌ {A = ℕ} 0 1 = cc in omega arith)
       first_of (y ∷ l) q h = let e₁ : y ≡ z = cc in subst (Within integer) e₁ h.0

@@ -1,7 +1,7 @@
 -- Jumps to the same or a lower index are those for a loop's next round.
 use Rattle.std.proofs.Common.{◌≡◌, ℕ, zero, suc, ◌+◌, ◌<◌, ◌≤◌, Bool, true, false, cond, T, ◌⊎◌, List, [], ◌∷◌, ◌++◌, length, get_or, ℤ, pos, Some, None, Option, sym, refl, ap, subst, inl, inr, arith}
 use lib.Signed.{le_z}
-use Rattle.std.specs.List.{AllByRecursion as All}
+use Rattle.std.specs.List.{AllByRecursion}
 use Rattle.instructions.specs.Numbers.{number_of}
 use Rattle.instructions.specs.Steps.{none as no_instruction}
 use Rattle.instructions.specs.declared.instruction.Instruction.{Instruction}
@@ -271,7 +271,7 @@ module _ (P : Program) where
       let L = next_rounds f.body (suc p) in
       (fair L _ _ (high _ 0 _ op.Enter (omega arith)), behind_s (block f) (length f.words) (Fair L) 0 0 f.body (suc p) _ (fair_s (block f) (length f.words) false 0 0 f.body w.body (suc p) (λ y. absurd y)) (fair L _ _ (forward_closing f.result f.end _), tt))
 
-  fair_ps : (fs : List Procedure) (p : ℕ) → All (WellFormedProcedure P) fs → Each (Fair (procedures_rounds fs p)) p (procedures_code P fs p)
+  fair_ps : (fs : List Procedure) (p : ℕ) → AllByRecursion (WellFormedProcedure P) fs → Each (Fair (procedures_rounds fs p)) p (procedures_code P fs p)
   fair_ps [] p w = tt
   fair_ps (f ∷ fs) p w =
       let L = next_rounds f.body (suc p) in

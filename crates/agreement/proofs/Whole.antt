@@ -2,7 +2,7 @@
 use Rattle.std.proofs.Common.{◌≡◌, ℕ, zero, suc, ◌+◌, ◌-◌, ◌*◌, ◌<◌, ◌≤◌, Bool, true, false, cond, eqb, ltb, ◌⊎◌, List, [], ◌∷◌, ◌++◌, length, get_or, ℤ, pos, Some, None, Ok, Err, Option, sym, refl, ap, ◌∙◌, subst, inl, inr, ⊎_elim, append_assoc, append-nil, le_trans, le_refl, suc-add, zero-add, arith, length-append}
 use lib.ListN.{length-replicate, replicate-append-replicate}
 use Rattle.std.proofs.lemmas.List.{take_all}
-use Rattle.std.specs.List.{AllByRecursion as All}
+use Rattle.std.specs.List.{AllByRecursion}
 use Rattle.ports.specs.Channels.{Meaning}
 use Rattle.ports.specs.Events.{Event, left, left_by}
 use Rattle.ports.specs.Law.{Lawful}
@@ -34,7 +34,7 @@ use Rattle.agreement.proofs.Expressions.{Linked, good_s, land_s}
 use Rattle.agreement.proofs.Statements.{simulated}
 
 -- every member of a list
-all_at : (Q : Procedure → Type 0) (fs : List Procedure) → All Q fs → (g : ℕ) → g < length fs → Q (get_or fs g missing)
+all_at : (Q : Procedure → Type 0) (fs : List Procedure) → AllByRecursion Q fs → (g : ℕ) → g < length fs → Q (get_or fs g missing)
 all_at Q [] h g l = absurd (omega arith)
 all_at Q (f ∷ fs) h zero l = h.0
 all_at Q (f ∷ fs) h (suc g) l = all_at Q fs h.1 g (omega arith)

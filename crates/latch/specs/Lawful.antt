@@ -1,13 +1,13 @@
 -- A latch keeps the law of ports.
 use Rattle.std.specs.Prelude.{List, ℤ, Some, None, Option, slice_index_or}
 use Rattle.std.proofs.Common.{lit≤}
-use Rattle.std.specs.List.{AllByRecursion as All}
+use Rattle.std.specs.List.{AllByRecursion}
 use Rattle.ports.specs.Law.{Integer, Lawful}
 use Rattle.ports.proofs.Integers.{stored_integer}
 use Rattle.latch.specs.declared.Slot.{Slot}
 use Rattle.latch.specs.Latched.{waiting_in, empty_slot, latched}
 
-waits_integers : (o : Option ℤ) → All Integer (waiting_in o)
+waits_integers : (o : Option ℤ) → AllByRecursion Integer (waiting_in o)
 waits_integers None = tt
 waits_integers (Some z) = (stored_integer z, tt)
 

@@ -1,6 +1,6 @@
 -- Variables keep their types.
 use Rattle.std.proofs.Common.{◌≡◌, ℕ, zero, suc, ◌<◌, Bool, true, false, cond, eqb, ltb, List, [], ◌∷◌, length, get_or, take as first, drop, replicate, ℤ, pos, ◌+ℤ◌, nat_abs, Some, None, Option, sym, refl, ap, subst, arith}
-use Rattle.std.specs.List.{AllByRecursion as All}
+use Rattle.std.specs.List.{AllByRecursion}
 use Rattle.integer.specs.Ends.{integer, Within}
 use Rattle.ports.specs.Calls.{changed, oldest, newer, take_after, set_after}
 use Rattle.ports.specs.Channels.{Channel, Meaning, channels}
@@ -28,7 +28,7 @@ changed_lawful m c ch h l k = range (ltb c channels)
     range true = here (eqb k c)
     range false = h k
 
-newer_all : (ws : List ℤ) → All Integer ws → All Integer (newer ws)
+newer_all : (ws : List ℤ) → AllByRecursion Integer ws → AllByRecursion Integer (newer ws)
 newer_all [] h = tt
 newer_all (w ∷ ws) h = h.1
 
@@ -38,7 +38,7 @@ take_lawful m c h = let l = h c in changed_lawful m c _ h (record { shallow = l.
 set_lawful : (m : Meaning) (c : ℕ) (x : ℤ) → Integer x → Lawful m → Lawful (set_after m c x)
 set_lawful m c x i h = let l = h c in changed_lawful m c _ h (record { shallow = l.shallow; waits = l.waits; shows = l.sets x i; reads = l.reads; sets = l.sets })
 
-oldest_integer : (ws : List ℤ) → All Integer ws → Answers Integer (oldest ws)
+oldest_integer : (ws : List ℤ) → AllByRecursion Integer ws → Answers Integer (oldest ws)
 oldest_integer [] h = no_answer
 oldest_integer (w ∷ ws) h = some_answer h.0
 
@@ -48,7 +48,7 @@ module _ (P : Program) where
     at : Block
     own : (xs : List ℤ) → Valued at.words xs → Activation P xs
     waiting : List (List ℤ)
-    waits : All (Activation P) waiting
+    waits : AllByRecursion (Activation P) waiting
 
   record Good (F : Frame) (σ : State) : Type 0 where
     globals : Valued P.words σ.globals
@@ -57,7 +57,7 @@ module _ (P : Program) where
     port : Lawful σ.port
 
   settled : (F : Frame) (σ : State) → Good F σ → Typed P σ
-  settled F σ g = record { globals = g.globals; activations = (F.own σ.locals g.locals, subst (All (Activation P)) (sym g.callers) F.waits) }
+  settled F σ g = record { globals = g.globals; activations = (F.own σ.locals g.locals, subst (AllByRecursion (Activation P)) (sym g.callers) F.waits) }
 
   -- a result: an answer with the property Q in a good state, or a state in which all words are typed
   data Fine (F : Frame) {A : Type 0} (Q : A → Type 0) : Res A → Type 0 where
@@ -184,7 +184,7 @@ module _ (P : Program) where
     resulted_fine τ returns σ₁ e q g₁ = is_stopped (settled (opened F σ k g l) σ₁ g₁)
 
   -- a procedure of a well-formed program is well formed
-  formed : (fs : List Procedure) (g : ℕ) → g < length fs → All (WellFormedProcedure P) fs → WellFormedProcedure P (get_or fs g missing)
+  formed : (fs : List Procedure) (g : ℕ) → g < length fs → AllByRecursion (WellFormedProcedure P) fs → WellFormedProcedure P (get_or fs g missing)
   formed [] g l h = absurd (omega arith)
   formed (f ∷ fs) zero l h = h.0
   formed (f ∷ fs) (suc g) l h = formed fs g (omega arith) h.1

@@ -1,7 +1,7 @@
 -- Worked examples: programs read on a port, with what each comes to. The text above each is its statements, from whose start
 -- places are counted; its variables are the module's words in the order in which the text names them.
 use Rattle.std.specs.Prelude.{◌≡◌, ℕ, cond, List, [], ◌∷◌, map, ℤ, pos, ◌-ℤ◌, neg_ℤ, Some, None, Option, int_le}
-use Rattle.std.specs.List.{AllByRecursion as All}
+use Rattle.std.specs.List.{AllByRecursion}
 use Rattle.integer.specs.Sets.{span, union_of}
 use Rattle.ports.specs.Events.{Event, took, set_to}
 use Rattle.ports.specs.Layers.{blank}
@@ -181,4 +181,4 @@ Holds x = reached (reading x.program (joined_all x.samples (blank 16)) x.fuel) �
 
 -- and so for each example
 abbrev pub ExamplesHold : Type 0
-ExamplesHold = All Holds examples
+ExamplesHold = AllByRecursion Holds examples

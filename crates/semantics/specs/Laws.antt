@@ -1,6 +1,6 @@
 -- Laws over readings.
 use Rattle.std.specs.Prelude.{◌≡◌, ℕ, ◌<◌, ◌≤◌, Bool, true, false, cond, ◌⊎◌, List, [], ◌∷◌, ◌++◌, length, ℤ, pos, ◌+ℤ◌, ◌*ℤ◌, ◌≢◌, int_le, int_lt}
-use Rattle.std.specs.List.{AllByRecursion as All}
+use Rattle.std.specs.List.{AllByRecursion}
 use Rattle.ports.specs.Channels.{Meaning}
 use Rattle.ports.specs.Events.{Event}
 use Rattle.ports.specs.Law.{Lawful}
@@ -88,7 +88,7 @@ pub data Activation (P : Program) : List ℤ → Type 0 where
 -- every word has a value of its type
 pub record Typed (P : Program) (σ : State) : Type 0 where
   pub globals : Valued P.words σ.globals
-  pub activations : All (Activation P) (σ.locals ∷ σ.callers)
+  pub activations : AllByRecursion (Activation P) (σ.locals ∷ σ.callers)
 
 -- the state in which a part is done, stopped or out of fuel
 abbrev pub state_of : {A : Type 0} → Res A → State

@@ -3,7 +3,7 @@
 use Rattle.std.specs.Prelude.{◌≡◌, ℕ, ◌<◌, ◌≤◌, Bool, true, false, T, List, [], ◌∷◌, length, take, drop, replicate, pos, Some, None, Option, ◌≢◌}
 use Rattle.std.proofs.Math.Option.{some}
 use Rattle.std.proofs.Math.ListN.{get_elem?}
-use Rattle.std.specs.List.{AllByRecursion as All}
+use Rattle.std.specs.List.{AllByRecursion}
 use Rattle.semantics.specs.Program.{BasicType, INTEGER, BOOLEAN, BITSET, Variable, global, local, Array, Unary, negate, complement, absolute, odd, Binary, add, subtract, multiply, divide, modulo, union, difference, intersection, equal, unequal, less, at_most, greater, at_least, Expr, constant, variable, element, unary, binary, member, both, either, call, Args, none, more, Target, whole, item, Update, increase, decrease, include, exclude, Stat, skip, assign, update, take as take_sample, put, perform, seq, choose, while, repeat, loop, for, exit, return, give, halt, Procedure, Program, procedure}
 use Rattle.semantics.specs.Values.{Value}
 use Rattle.semantics.specs.Extent.{depth, args_depth, for_depth, loop_depth, program_symbols}
@@ -178,7 +178,7 @@ pub record WellFormedProcedure (P : Program) (f : Procedure) : Type 0 where
 pub record WellFormed (P : Program) : Type 0 where
   pub words : length P.words ≤ 1024
   pub symbols : program_symbols P ≤ 1024
-  pub procedures : All (WellFormedProcedure P) P.procedures
+  pub procedures : AllByRecursion (WellFormedProcedure P) P.procedures
   pub fors : for_depth P.body ≤ deepest
   pub loops : loop_depth P.body ≤ deepest
   pub body : Statement P module_block false P.body
