@@ -7,7 +7,7 @@ use std::alloc::{AllocError, Global};
 pub fn read_code(heap: Global, text: &str) -> Result<Result<Vec<Instruction>, usize>, AllocError> {
     let mut code = Vec::new(heap);
     for (k, line) in text.lines().enumerate() {
-        if line.starts_with('#') || line.split_whitespace().next().is_none() {
+        if line.is_empty() || line.starts_with('#') {
             continue;
         }
         match read_line(line.as_bytes()) {
