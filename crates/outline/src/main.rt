@@ -58,6 +58,7 @@ fn is_placeless(kind: NodeKind) -> bool {
         | NodeKind::Terms
         | NodeKind::Limits
         | NodeKind::Variable
+        | NodeKind::Bounds
         | NodeKind::Parameters
         | NodeKind::Heading
         | NodeKind::Block => true,
