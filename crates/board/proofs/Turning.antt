@@ -1,5 +1,5 @@
 -- A run, turn by turn, with its events counted.
-use Rattle.std.proofs.Common.{◌≡◌, ℕ, zero, suc, ◌+◌, ◌-◌, ◌<◌, ◌≤◌, List, [], ◌∷◌, ◌++◌, length, ℤ, Some, None, Ok, Err, Option, Result, sym, refl, ap, ◌∙◌, ap₂, add-zero, add_assoc, zero-add, arith}
+use Rattle.std.proofs.Common.{◌≡◌, ℕ, zero, suc, ◌+◌, ◌-◌, ◌<◌, ◌≤◌, List, length, ℤ, Some, None, Ok, Err, Option, Result, sym, refl, ap, ◌∙◌, ap₂, add-zero, add_assoc, zero-add, arith}
 use mathlib.Core.Path.{transport}
 use Rattle.ports.specs.Calls.{take_answer, set_answer}
 use Rattle.instructions.specs.declared.answers.Act.{Act}
@@ -9,9 +9,9 @@ use Rattle.instructions.specs.declared.answers.Step.{Step}
 use Rattle.instructions.specs.declared.answers.Step.TheVariants.{Went, Event, Stopped}
 use Rattle.instructions.specs.declared.instruction.Instruction.{Instruction}
 use Rattle.instructions.specs.State.{State}
-use Rattle.instructions.specs.Steps.{View, Run, Move, gone, did, halted, step, stepped, run, more, onward, spent, with_parts, took_or_waits, set_or_not}
+use Rattle.instructions.specs.Steps.{View, Run, Move, gone, did, halted, step, stepped, run, onward, spent, with_parts, took_or_waits, set_or_not}
 use Rattle.board.specs.Seen.{Told, told, answered, Tally, tally}
-use Rattle.processor.specs.Shows.{shown, Stretched, stretched, stretched_by, before}
+use Rattle.processor.specs.Shows.{shown, Stretched, stretched, stretched_by}
 use Rattle.board.proofs.Showing.{step_answered}
 
 -- a counted run with more before it

@@ -1,5 +1,5 @@
 -- What the definitions see of a board.
-use Rattle.std.specs.Prelude.{ℕ, cond, List, length, ℤ, pos, ◌-ℤ◌, Ok, Err, Result, int_le, nat_lt, slice_index_or}
+use Rattle.std.specs.Prelude.{ℕ, cond, length, ℤ, pos, ◌-ℤ◌, Ok, Err, Result, int_le, nat_lt, slice_index_or}
 use Rattle.ports.specs.Calls.{feed_after, take_answer, set_answer}
 use Rattle.ports.specs.Channels.{Meaning}
 use Rattle.instructions.specs.declared.answers.Act.{Act}

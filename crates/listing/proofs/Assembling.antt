@@ -1,5 +1,5 @@
 -- A line without a place is malformed.
-use Rattle.std.proofs.Common.{◌≡◌, ℕ, List, Some, None, Option, refl, ap, ◌∙◌}
+use Rattle.std.proofs.Common.{◌≡◌, ℕ, List, Some, None, Option, refl, ap}
 use Rattle.instructions.specs.declared.operation.Operation.{Operation}
 use Rattle.listing.specs.Lines.{assembled, number, operation, first_word, behind, reading}
 

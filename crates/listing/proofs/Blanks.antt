@@ -1,8 +1,8 @@
 -- Where the first blank stands.
-use Rattle.std.proofs.Common.{◌≡◌, ℕ, zero, suc, ◌+◌, ◌-◌, ◌<◌, ◌≤◌, min, Bool, true, false, cond, eqb, List, [], ◌∷◌, ◌++◌, length, get_or, take, drop, sym, refl, ap, ◌∙◌, inl, inr, arith}
+use Rattle.std.proofs.Common.{◌≡◌, ℕ, ◌+◌, ◌-◌, ◌<◌, ◌≤◌, min, cond, List, length, get_or, take, drop, sym, ap, ◌∙◌, inl, inr, arith}
 use Rattle.std.proofs.lemmas.List.{at_drop_more, at_drop_all, take_rest, drop_all}
 use Rattle.std.proofs.lemmas.Bool.{eq-eqb, ne_eqb, cases_lt}
-use Rattle.listing.specs.Lines.{blank, first_word, behind}
+use Rattle.listing.specs.Lines.{blank}
 
 pub blank_here : (l : List ℕ) (i : ℕ) → i < length l → get_or l i 0 ≡ 32 → blank (drop i l) ≡ 0
 blank_here l i h e = at_drop_more blank l i 0 h ∙ ap (λ b. cond b 0 (1 + blank (drop (i + 1) l))) (eq-eqb (get_or l i 0) 32 e)

@@ -1,4 +1,4 @@
-use Rattle.std.proofs.Common.{◌≡◌, ◌+◌, min, length, drop, ap, ◌∙◌, arith, rules}
+use Rattle.std.proofs.Common.{◌≡◌, ◌+◌, min, length, ap, ◌∙◌}
 use Rattle.listing.specs.Lines.{blank}
 use Rattle.listing.proofs.Blanks.{drop_least}
 use Rattle.listing.proofs.line.behind.Goals as goal

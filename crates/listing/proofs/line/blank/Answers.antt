@@ -1,4 +1,4 @@
-use Rattle.std.proofs.Common.{sym, arith}
+use Rattle.std.proofs.Common.{arith}
 use Rattle.listing.proofs.Blanks.{blank_here, blank_later, blank_none}
 use Rattle.listing.proofs.line.blank.Goals as goal
 

@@ -1,4 +1,4 @@
-use Rattle.std.proofs.Common.{◌≡◌, ◌-◌, min, length, refl, ap₂, arith, rules}
+use Rattle.std.proofs.Common.{◌≡◌, ◌-◌, min, length, refl, ap₂, arith}
 use Rattle.board.proofs.Showing.{take_least}
 use Rattle.board.proofs.machine.Board.load.Goals as goal
 
