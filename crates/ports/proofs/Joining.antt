@@ -4,7 +4,7 @@ use mathlib.Core.Path.{fun_ext}
 use Rattle.std.proofs.lemmas.Bool.{eqb-true}
 use Rattle.ports.specs.Calls.{changed, oldest, newer, take_after, set_after}
 use Rattle.ports.specs.Channels.{Channel, Meaning, channels, holding, showing}
-use Rattle.ports.specs.Samples.{Sample, lengthened, joined}
+use Rattle.ports.specs.Samples.{Sample, longer, joined}
 
 -- a channel altered by a rule
 abbrev on : (Channel → Channel) → ℕ → Meaning → Meaning
@@ -59,17 +59,17 @@ newer_stays (w ∷ ws) y z e = refl
 module _ (s : Sample) where
   -- a sample that waits is found first
   pub joined_finds : (c : ℕ) (z : ℤ) (m : Meaning) → oldest (m c).waiting ≡ Some z → oldest (joined s m c).waiting ≡ Some z
-  joined_finds c z m e = ap (λ ch. oldest ch.waiting) (on_at (lengthened s.value) s.channel m c) ∙ go (is c s.channel)
+  joined_finds c z m e = ap (λ ch. oldest ch.waiting) (on_at (longer s.value) s.channel m c) ∙ go (is c s.channel)
     where
-      go : (b : Bool) → oldest (cond b (lengthened s.value (m c)) (m c)).waiting ≡ Some z
+      go : (b : Bool) → oldest (cond b (longer s.value (m c)) (m c)).waiting ≡ Some z
       go true = oldest_stays (m c).waiting ((m c).reading s.value) z e
       go false = e
 
   -- where none waits, one may have joined
   pub joined_lacks : (c : ℕ) (m : Meaning) → oldest (m c).waiting ≡ None → (c ≡ s.channel) ⊎ (oldest (joined s m c).waiting ≡ None)
-  joined_lacks c m e = go (is c s.channel) (is_true c s.channel) (ap (λ ch. oldest ch.waiting) (on_at (lengthened s.value) s.channel m c))
+  joined_lacks c m e = go (is c s.channel) (is_true c s.channel) (ap (λ ch. oldest ch.waiting) (on_at (longer s.value) s.channel m c))
     where
-      go : (b : Bool) → (b ≡ true → c ≡ s.channel) → oldest (joined s m c).waiting ≡ oldest (cond b (lengthened s.value (m c)) (m c)).waiting → (c ≡ s.channel) ⊎ (oldest (joined s m c).waiting ≡ None)
+      go : (b : Bool) → (b ≡ true → c ≡ s.channel) → oldest (joined s m c).waiting ≡ oldest (cond b (longer s.value (m c)) (m c)).waiting → (c ≡ s.channel) ⊎ (oldest (joined s m c).waiting ≡ None)
       go true h q = inl (h refl)
       go false h q = inr (q ∙ e)
 
@@ -77,9 +77,9 @@ module _ (s : Sample) where
   pub joined_takes : (c : ℕ) (z : ℤ) (m : Meaning) → oldest (m c).waiting ≡ Some z → joined s (take_after m c) ≡ take_after (joined s m) c
   joined_takes c z m e =
       let Found : ℕ → Type 0 = λ k. oldest (m k).waiting ≡ Some z in
-      commute (lengthened s.value) (λ ch. holding ch (newer ch.waiting)) s.channel c m
+      commute (longer s.value) (λ ch. holding ch (newer ch.waiting)) s.channel c m
       (λ k q. ap (holding (m k)) (newer_stays (m k).waiting ((m k).reading s.value) z (subst Found (sym q) e)))
 
   -- what is set does not look at what waits
   pub joined_sets : (c : ℕ) (x : ℤ) (m : Meaning) → joined s (set_after m c x) ≡ set_after (joined s m) c x
-  joined_sets c x m = commute (lengthened s.value) (λ ch. showing ch (ch.setting x)) s.channel c m (λ k q. refl)
+  joined_sets c x m = commute (longer s.value) (λ ch. showing ch (ch.setting x)) s.channel c m (λ k q. refl)

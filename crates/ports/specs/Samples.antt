@@ -9,12 +9,12 @@ pub record Sample : Type 0 where
   pub value : ℤ
 
 -- the channel with one sample more, read by its rule, whatever the depth
-abbrev pub lengthened : ℤ → Channel → Channel
-lengthened z ch = holding ch (ch.waiting ++ ch.reading z ∷ [])
+abbrev pub longer : ℤ → Channel → Channel
+longer z ch = holding ch (ch.waiting ++ ch.reading z ∷ [])
 
 -- the port with one sample more
 abbrev pub joined : Sample → Meaning → Meaning
-joined s m = changed m s.channel (lengthened s.value (m s.channel))
+joined s m = changed m s.channel (longer s.value (m s.channel))
 
 -- the port with samples more, the first first
 abbrev pub joined_all : List Sample → Meaning → Meaning
