@@ -1,3 +1,6 @@
+ghost use Rattle.std.specs.Prelude.{pos};
+ghost use Rattle.number.specs.Numbers.{Number, whole};
+
 use number::number;
 use script::command::Command;
 
@@ -13,7 +16,9 @@ pub enum Order {
 }
 
 // A number from 0 to 65,535.
-fn count(word: &str) -> Option<u16> {
+fn count(word: &str) -> Option<u16>
+    ensures { Number (pos 0) (pos 65535) word.now (whole result) }
+{
     let z = number(word, 0, 65_535)?;
     Some(z as u16)
 }

@@ -1,3 +1,7 @@
+ghost use Rattle.std.specs.Prelude.{◌≡◌};
+ghost use Rattle.board.specs.Seen.{view};
+ghost use Rattle.console.specs.Replies.{port_reply, port_replied, Replies};
+
 use crate::order::Order;
 use crate::reply::Reply;
 use board::Board;
@@ -7,7 +11,10 @@ use script::command::Command;
 use std::io;
 
 // The answer of a board's port to a command.
-fn answer_port<P: Port>(board: &mut Board<P>, command: Command) -> Answer {
+fn answer_port<P: Port>(board: &mut Board<P>, command: Command) -> Answer
+    ensures answer { result ≡ port_reply (view P.Port.meaning board.old) command }
+    ensures after { view P.Port.meaning board.new ≡ port_replied (view P.Port.meaning board.old) command }
+{
     match command {
         Command::Feed { channel, value } => match board.feed(channel, value) {
             Ok(()) => Answer::Fed,
@@ -22,7 +29,9 @@ fn answer_port<P: Port>(board: &mut Board<P>, command: Command) -> Answer {
 }
 
 // The answer of a board to an order.
-fn answer<P: Port>(board: &mut Board<P>, order: Order) -> Reply {
+fn answer<P: Port>(board: &mut Board<P>, order: Order) -> Reply
+    ensures { Replies (view P.Port.meaning board.old) order result (view P.Port.meaning board.new) }
+{
     match order {
         Order::Run(budget) => Reply::Ran(board.run(budget)),
         Order::Peek(word) => match board.peek(word) {
