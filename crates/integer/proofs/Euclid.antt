@@ -1,32 +1,35 @@
 -- The law of division: the pair satisfies it, nothing else does, and the pair stays between the ends of its operands.
-use Rattle.std.proofs.Common.{◌≡◌, ℕ, ◌+◌, ◌-◌, ◌*◌, ◌/◌, ◌%◌, ◌<◌, ◌≤◌, ℤ, pos, negsuc, ◌*ℤ◌, ◌≤ℤ◌, sym, refl, ap, ◌∙◌, subst, ap₂, mod-lt, suc-mul, mul_comm, add-mul, le-mul_of_pos_right, arith}
+use Rattle.std.proofs.Common.{◌≡◌, ℕ, ◌+◌, ◌-◌, ◌*◌, ◌/◌, ◌%◌, ◌<◌, ◌≤◌, ℤ, pos, negsuc, ◌*ℤ◌, ◌≤ℤ◌, sym, refl, ap, ◌∙◌, ap₂, mod-lt, suc-mul, mul_comm, add-mul, le-mul_of_pos_right, arith}
 use native.Mathlib.Nat.{div-add-mod}
 use borrow.Author.Differences.{up, down}
-use Rattle.std.specs.Int.{int_div_euclid}
+use Rattle.std.specs.Int.{int_div_euclid, int_rem_euclid}
 use Rattle.std.proofs.lemmas.Nat.{div-mul-add, mod-mul-add}
 use Rattle.std.proofs.lemmas.Int.{ints}
 use Rattle.integer.specs.Division.{paired, Divides, PairIsUnique, PairIsWithin, ExamplesHold}
 use Rattle.integer.specs.Ends.{Ends, Within}
 
-pub paired_divides : (x y : ℤ) → pos 1 ≤ℤ y → Divides x y (paired x y (int_div_euclid x y))
-paired_divides (pos a) (pos b) h =
+-- what the two divisions of the library answer satisfies it
+pub euclid_divides : (x y q r : ℤ) → pos 1 ≤ℤ y → q ≡ int_div_euclid x y → r ≡ int_rem_euclid x y → Divides x y (q, r)
+euclid_divides (pos a) (pos b) q r h e f =
     let p : 0 < b = omega (arith, ints) in
-    let e = div-add-mod a b in
+    let d = div-add-mod a b in
     let c = mul_comm b (a / b) in
     let l = mod-lt a p in
-    (omega (arith, ints), omega (arith, ints), omega (arith, ints))
-paired_divides (negsuc a) (pos b) h =
+    rw (e, f) (omega (arith, ints), omega (arith, ints), omega (arith, ints))
+euclid_divides (negsuc a) (pos b) q r h e f =
     let p : 0 < b = omega (arith, ints) in
-    let e = div-add-mod a b in
+    let d = div-add-mod a b in
     let c = mul_comm b (a / b) in
     let l = mod-lt a p in
     let s = suc-mul (a / b) b in
-    (omega (arith, ints), omega (arith, ints), omega (arith, ints))
-paired_divides (pos a) (negsuc b) h = absurd (omega (arith, ints))
-paired_divides (negsuc a) (negsuc b) h = absurd (omega (arith, ints))
+    rw (e, f) (omega (arith, ints), omega (arith, ints), omega (arith, ints))
+euclid_divides (pos a) (negsuc b) q r h e f = absurd (omega (arith, ints))
+euclid_divides (negsuc a) (negsuc b) q r h e f = absurd (omega (arith, ints))
 
-pub divides_at : (x y : ℤ) (p s : ℤ × ℤ) → p.0 ≡ s.0 → p.1 ≡ s.1 → Divides x y s → Divides x y p
-divides_at x y p s f g h = subst (Divides x y) (sym (ap₂ (λ a b. (a, b)) f g)) h
+pub paired_divides : (x y : ℤ) → pos 1 ≤ℤ y → Divides x y (paired x y (int_div_euclid x y))
+paired_divides x y h =
+    let d = euclid_divides x y _ _ h refl refl in
+    (omega (arith, ints), omega (arith, ints), omega (arith, ints))
 
 -- a natural is divided in one way only
 same_ℕ : (m n y r s : ℕ) → r < y → s < y → m * y + r ≡ n * y + s → (m ≡ n) × (r ≡ s)

@@ -2,17 +2,11 @@
 ghost use Rattle.std.specs.Prelude.{◌≡◌, pos, ◌+ℤ◌, ◌-ℤ◌, ◌*ℤ◌, neg_ℤ, unsigned_abs};
 ghost use Rattle.integer.specs.Ends.{integer, kept};
 
-use crate::{HIGHEST, LOWEST};
-
 // z, or none if it is no INTEGER.
 fn fit(z: i64) -> Option<i32>
     ensures { result ≡ kept integer z }
 {
-    if z < LOWEST as i64 || z > HIGHEST as i64 {
-        None
-    } else {
-        Some(z as i32)
-    }
+    i16::try_from(z).ok().map(i32::from)
 }
 
 /// x + y, or none if that is no INTEGER.

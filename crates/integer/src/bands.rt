@@ -10,13 +10,7 @@ pub fn saturate(x: i64) -> i32
     ensures answer { result ≡ held integer x }
     ensures nearest { Nearest integer x result }
 {
-    if x <= LOWEST as i64 {
-        LOWEST
-    } else if x >= HIGHEST as i64 {
-        HIGHEST
-    } else {
-        x as i32
-    }
+    x.clamp(LOWEST as i64, HIGHEST as i64) as i32
 }
 
 /// The number from low to high that is nearest to x: low where x is at most low, else high where x is at least high, else x.
@@ -24,11 +18,5 @@ pub fn clamp(x: i32, low: i32, high: i32) -> i32
     ensures answer { result ≡ clamped low high x }
     ensures nearest { low ≤ℤ high → Nearest (band low high) x result }
 {
-    if x <= low {
-        low
-    } else if x >= high {
-        high
-    } else {
-        x
-    }
+    if x <= low { low } else { x.min(high) }
 }

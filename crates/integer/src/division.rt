@@ -3,14 +3,6 @@ ghost use Rattle.std.specs.Prelude.{◌≡◌, ℤ, pos, ◌≤ℤ◌, ◌<ℤ�
 ghost use Rattle.std.specs.Int.{int_div_euclid};
 ghost use Rattle.integer.specs.Division.{divided, Divides};
 
-// The quotient of x by y, rounded down.
-fn quotient_of(x: i32, y: i32) -> i32
-    requires { pos 1 ≤ℤ y }
-    ensures { result ≡ int_div_euclid x y }
-{
-    x.div_euclid(y)
-}
-
 /// Quotient and remainder of x by y, the quotient rounded down, or none if y is below 1.
 pub fn divide(x: i32, y: i32) -> Option<(i32, i32)>
     ensures answer { result ≡ divided x y }
@@ -20,8 +12,5 @@ pub fn divide(x: i32, y: i32) -> Option<(i32, i32)>
     if y < 1 {
         return None;
     }
-    let quotient = quotient_of(x, y);
-    // quotient * y can pass the ends of an i32
-    let remainder = x as i64 - quotient as i64 * y as i64;
-    Some((quotient, remainder as i32))
+    Some((x.div_euclid(y), x.rem_euclid(y)))
 }

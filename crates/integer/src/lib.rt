@@ -14,6 +14,6 @@ pub use laws::laws_hold;
 pub use sets::{contains, difference, exclude, include, intersection, range, union};
 
 /// The least INTEGER.
-pub const LOWEST: i32 = -32768;
+pub const LOWEST: i32 = i16::MIN as i32;
 /// The greatest INTEGER.
-pub const HIGHEST: i32 = 32767;
+pub const HIGHEST: i32 = i16::MAX as i32;

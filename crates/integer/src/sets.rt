@@ -14,13 +14,10 @@ fn low_bits(word: i32) -> u16
 fn place(element: i32) -> Option<u32>
     ensures { result ≡ if_element element (unsigned_abs element) }
 {
-    if element < 0 || element > 15 {
-        None
-    } else {
-        Some(element as u32)
-    }
+    u32::try_from(element).ok().filter(|i| *i < 16)
 }
 
+// Three functions, since each is one expression: one that took the operation as a closure would be longer.
 /// The elements of a, of b or of both.
 pub fn union(a: i32, b: i32) -> i32
     ensures answer { result ≡ union_of a b }
@@ -49,9 +46,7 @@ pub fn intersection(a: i32, b: i32) -> i32
 pub fn contains(set: i32, element: i32) -> Option<bool>
     ensures { result ≡ if_element element (has (unsigned_abs element) set) }
 {
-    let Some(i) = place(element) else {
-        return None;
-    };
+    let i = place(element)?;
     Some((low_bits(set) >> i) & 1 == 1)
 }
 
@@ -60,9 +55,7 @@ pub fn include(set: i32, element: i32) -> Option<i32>
     ensures answer { result ≡ if_element element (including set element) }
     ensures members { MatchOption result (within elements element ≡ false) (Elements (λ i. has i set || i == unsigned_abs element)) }
 {
-    let Some(i) = place(element) else {
-        return None;
-    };
+    let i = place(element)?;
     Some((low_bits(set) | 1 << i) as i32)
 }
 
@@ -71,9 +64,7 @@ pub fn exclude(set: i32, element: i32) -> Option<i32>
     ensures answer { result ≡ if_element element (excluding set element) }
     ensures members { MatchOption result (within elements element ≡ false) (Elements (λ i. has i set && not (i == unsigned_abs element))) }
 {
-    let Some(i) = place(element) else {
-        return None;
-    };
+    let i = place(element)?;
     Some((low_bits(set) & !(1 << i)) as i32)
 }
 
@@ -82,9 +73,8 @@ pub fn range(low: i32, high: i32) -> Option<i32>
     ensures answer { result ≡ (if ordered low high then Some (span low high) else None) }
     ensures members { MatchOption result (ordered low high ≡ false) (Elements (λ i. int_le low (pos i) && int_le (pos i) high)) }
 {
-    let (Some(first), Some(last)) = (place(low), place(high)) else {
-        return None;
-    };
+    let first = place(low)?;
+    let last = place(high)?;
     if last < first {
         return None;
     }

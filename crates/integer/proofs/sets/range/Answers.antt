@@ -9,12 +9,12 @@ use Rattle.integer.proofs.sets.range.Goals as goal
 
 -- the sum of the powers from first to last
 abbrev sum : goal.Else-last-first → ℕ
-sum c = powers (λ i. leb c.in-Some-Some.first i && leb i c.in-Some-Some.last) 16
+sum c = powers (λ i. leb c.in_ok-first.first i && leb i c.in_ok-last.last) 16
 
-difference : (c : goal.Else-last-first) → (2 * 2 ^ c.in-Some-Some.last) % 2 ^ 32 ≡ sum c + (1 * 2 ^ c.in-Some-Some.first) % 2 ^ 32
+difference : (c : goal.Else-last-first) → (2 * 2 ^ c.in_ok-last.last) % 2 ^ 32 ≡ sum c + (1 * 2 ^ c.in_ok-first.first) % 2 ^ 32
 difference c =
-    let p = placed c.args.high c.in-Some-Some.last c.ranges.high c.in-Some-Some.ensures' in
-    sum_bits c.in-Some-Some.first c.in-Some-Some.last (omega arith) p.2
+    let p = placed c.args.high c.in_ok-last.last c.ranges.high c.in_ok-last.ensures in
+    sum_bits c.in_ok-first.first c.in_ok-last.last (omega arith) p.2
 
 pub overflow_sub-result : goal.overflow_sub-result
 overflow_sub-result c = omega (arith, difference c)
@@ -23,10 +23,10 @@ pub returns : goal.returns
 returns c =
     let m = c.args.low in
     let n = c.args.high in
-    let l = c.in-Some-Some.first in
-    let h = c.in-Some-Some.last in
-    let p = placed m l c.ranges.low c.in-Some-Some.ensures in
-    let q = placed n h c.ranges.high c.in-Some-Some.ensures' in
+    let l = c.in_ok-first.first in
+    let h = c.in_ok-last.last in
+    let p = placed m l c.ranges.low c.in_ok-first.ensures in
+    let q = placed n h c.ranges.high c.in_ok-last.ensures in
     let r = ranged m n l h p.0 q.0 p.1 q.1 (omega arith) in
     let d : (2 * 2 ^ h) % 2 ^ 32 - (1 * 2 ^ l) % 2 ^ 32 ≡ sum c = omega (arith, difference c) in
     let e : to_z w32 ((2 * 2 ^ h) % 2 ^ 32 - (1 * 2 ^ l) % 2 ^ 32) ≡ span m n =

@@ -1,13 +1,10 @@
-use Rattle.std.proofs.Common.{◌||◌, ◌∙◌, ap₂, rules}
+use Rattle.std.proofs.Common.{◌||◌, ◌∙◌, ap₂}
 use lib.Bits.{bit_or}
 use Rattle.std.proofs.lemmas.Nat.{or_lt}
 use Rattle.integer.specs.Sets.{has}
 use Rattle.integer.proofs.Powers.{digit_or}
 use Rattle.integer.proofs.Words.{answered, digit_low}
 use Rattle.integer.proofs.sets.union.Goals as goal
-
-pub overflow_cast-result : goal.overflow_cast-result
-overflow_cast-result c = search (rules, or_lt 31)
 
 pub returns : goal.returns
 returns c =

@@ -1,7 +1,0 @@
-use Rattle.std.proofs.Common.{ap, ◌∙◌}
-use Rattle.integer.specs.Ends.{integer, kept}
-use Rattle.integer.proofs.Wide.{wide_difference}
-use Rattle.integer.proofs.arithmetic.subtract.Goals as goal
-
-pub returns : goal.returns
-returns c = c.fit.ensures ∙ ap (kept integer) (wide_difference c.args.x c.args.y c.ranges.x c.ranges.y)
