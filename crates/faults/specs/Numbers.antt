@@ -1,5 +1,6 @@
--- The layer and the published number of each kind of fault.
-use Rattle.std.specs.Prelude.{ℕ}
+-- The layer and the published number of each kind of fault, and how a fault is shown.
+use Rattle.std.specs.Prelude.{ℕ, List, ◌++◌, codes, decimal}
+use Rattle.faults.specs.declared.kind.Fault.{Fault}
 use Rattle.faults.specs.declared.kind.FaultKind.{FaultKind}
 use Rattle.faults.specs.declared.kind.FaultKind.TheVariants.{ListTooShort, SourceTooLong, StrayByte, MalformedNumber, NumberTooLarge, OpenComment, TooManySymbols, ImpossibleSymbol, EnclosedTooDeep, Undeclared, DeclaredTwice, WrongType, ClosingNameDiffers, Misplaced, ForName, ArgumentCount, BadConstant, TooManyWords}
 use Rattle.faults.specs.declared.kind.Layer.{Layer}
@@ -46,3 +47,7 @@ number_of ForName = 36
 number_of ArgumentCount = 37
 number_of BadConstant = 38
 number_of TooManyWords = 39
+
+-- a fault as the programs show it: its number and its place
+abbrev pub shown : Fault → List ℕ
+shown fault = codes "refused " ++ decimal (number_of fault.kind) ++ codes " at " ++ decimal fault.place

@@ -25,25 +25,6 @@ impl FaultKind {
     pub fn number(self) -> u8
         ensures { result ≡ number_of self }
     {
-        match self {
-            FaultKind::ListTooShort => 1,
-            FaultKind::SourceTooLong => 2,
-            FaultKind::StrayByte => 11,
-            FaultKind::MalformedNumber => 12,
-            FaultKind::NumberTooLarge => 13,
-            FaultKind::OpenComment => 14,
-            FaultKind::TooManySymbols => 15,
-            FaultKind::ImpossibleSymbol => 21,
-            FaultKind::EnclosedTooDeep => 22,
-            FaultKind::Undeclared => 31,
-            FaultKind::DeclaredTwice => 32,
-            FaultKind::WrongType => 33,
-            FaultKind::ClosingNameDiffers => 34,
-            FaultKind::Misplaced => 35,
-            FaultKind::ForName => 36,
-            FaultKind::ArgumentCount => 37,
-            FaultKind::BadConstant => 38,
-            FaultKind::TooManyWords => 39,
-        }
+        self as u8
     }
 }
