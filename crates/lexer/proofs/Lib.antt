@@ -1,4 +1,3 @@
-pub mod RunEnds
 pub mod Skips
 pub mod Fronts
 pub mod Turns

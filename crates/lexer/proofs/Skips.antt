@@ -1,5 +1,5 @@
 -- One turn of the search for the next symbol.
-use Rattle.std.proofs.Common.{◌≡◌, ℕ, ◌+◌, ◌-◌, Bool, true, false, cond, ◌&&◌, ◌||◌, eqb, ltb, List, [], ◌∷◌, length, take, drop, Ok, Err, Result, sym, refl, ap, ◌∙◌, arith, ltb-false}
+use Rattle.std.proofs.Common.{◌≡◌, ℕ, ◌+◌, ◌-◌, Bool, true, false, cond, ◌&&◌, ◌||◌, eqb, ltb, List, [], ◌∷◌, length, take, drop, min, Ok, Err, Result, sym, refl, ap, ◌∙◌, arith, ltb-false}
 use Rattle.std.proofs.lemmas.List.{take_rest, drop-drop}
 use Rattle.faults.specs.declared.kind.FaultKind.TheVariants.{OpenComment}
 use Rattle.faults.specs.declared.kind.Fault.{Fault}
@@ -7,7 +7,7 @@ use Rattle.lexer.specs.declared.symbol.Lead.{Lead}
 use Rattle.lexer.specs.declared.symbol.Lead.TheVariants.{Done, Open, Nest, Close, Pass, Stop}
 use Rattle.vocabulary.specs.Characters.{separator}
 use Rattle.lexer.specs.Leads.{lead_of, opens, closes}
-use Rattle.lexer.specs.Scan.{skipped, fault}
+use Rattle.lexer.specs.Scan.{skipped, place_from, fault}
 
 abbrev pub ended : ℕ → ℕ → ℕ → Result ℕ Fault
 ended depth opened at = cond (eqb depth 0) (Ok at) (Err (fault OpenComment opened))
@@ -65,3 +65,8 @@ pub turn : (s : List ℕ) (at depth opened : ℕ) (l : Lead) → l ≡ lead_of (
 turn s at depth opened l e =
     let same : lead_of (ltb 0 depth) (drop at s) ≡ l = rw take_rest at (sym e) in
     skipped_step depth opened at (drop at s) ∙ ap (λ k. turned k depth opened at (drop at s)) same ∙ there l depth opened at s
+
+-- the same where the search began at `start`
+pub arrives : (s : List ℕ) (from start at depth opened : ℕ) (l : Lead) → start ≡ min from (length s) → skipped depth opened at (drop at s) ≡ skipped 0 0 start (drop start s) → l ≡ lead_of (ltb 0 depth) (take (length s - at) (drop at s)) → at_place l depth opened at s ≡ place_from s from
+arrives s from start at depth opened l b e h =
+    sym (turn s at depth opened l h) ∙ e ∙ ap (λ n. skipped 0 0 n (drop n s)) b

@@ -4,7 +4,7 @@ use Rattle.faults.specs.declared.kind.FaultKind.TheVariants.{ListTooShort, Sourc
 use Rattle.faults.specs.declared.kind.Fault.{Fault}
 use Rattle.vocabulary.specs.declared.tag.Tag.TheVariants.{EndOfSource}
 use Rattle.lexer.specs.declared.symbol.SymbolRecord.{SymbolRecord}
-use Rattle.lexer.specs.Scan.{Found, fault, symbols_of, symbol_limit, byte_limit}
+use Rattle.lexer.specs.Scan.{Found, fault, symbols_from, symbols_of, symbol_limit, byte_limit}
 
 -- what is kept of a symbol
 abbrev pub record_of : Found → SymbolRecord
@@ -22,6 +22,10 @@ zero_record = record { tag = EndOfSource; place = 0 }
 abbrev pub recorded : Result (List Found) Fault → Result (List SymbolRecord) Fault
 recorded (Ok fs) = Ok (map record_of fs)
 recorded (Err e) = Err e
+
+-- what is kept of a source that may have so many symbols, or its first fault; too long a source is not read
+abbrev pub records_of : ℕ → List ℕ → Result (List SymbolRecord) Fault
+records_of limit s = cond (nat_lt byte_limit (length s)) (Err (fault SourceTooLong byte_limit)) (recorded (symbols_from limit s 0))
 
 -- the answer and the list afterwards: the records in front and the rest untouched, or all zeroed on a fault
 abbrev pub stored : List SymbolRecord → Result (List SymbolRecord) Fault → Result ℕ Fault × List SymbolRecord

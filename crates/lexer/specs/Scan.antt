@@ -98,9 +98,13 @@ abbrev pub thence : List ℕ → Result ℕ Fault → Result Found Fault
 thence s (Ok at) = symbol_at s at
 thence s (Err e) = Err e
 
+-- the place of the first symbol at the place `from` or behind it
+abbrev pub place_from : List ℕ → ℕ → Result ℕ Fault
+place_from s from = skipped 0 0 (min from (length s)) (drop (min from (length s)) s)
+
 -- the first symbol at the place `from` or behind it
 abbrev pub symbol_from : List ℕ → ℕ → Result Found Fault
-symbol_from s from = thence s (skipped 0 0 (min from (length s)) (drop (min from (length s)) s))
+symbol_from s from = thence s (place_from s from)
 
 -- only the end of the source has no text
 abbrev pub ends : Found → Bool

@@ -4,7 +4,6 @@
 mod next;
 mod parts;
 mod records;
-mod runs;
 pub mod symbol;
 
 pub use next::next_symbol;

@@ -1,12 +1,11 @@
-ghost use Rattle.std.specs.Prelude.{◌≡◌, ◌≤◌, false, length, drop, IfOk, Ok, Err, MatchResult};
+ghost use Rattle.std.specs.Prelude.{◌≡◌, ◌≤◌, ◌==◌, false, length, take, IfOk, Ok, Err, MatchResult};
 ghost use Rattle.vocabulary.specs.Tags.{word_tag};
 ghost use Rattle.lexer.specs.Leads.{lead_of, width};
-ghost use Rattle.lexer.specs.Scan.{skipped, symbol_at, symbol_from, seen, end_of, tag_of, text_of, is_end, ends};
+ghost use Rattle.lexer.specs.Scan.{place_from, front_of, symbol_from, seen, end_of, tag_of, text_of, is_end, ends};
 
-use crate::runs::run_end;
 use crate::symbol::{Lead, Lexeme, Symbol};
 use faults::{Fault, FaultKind};
-use vocabulary::{Tag, is_digit, is_letter, number_value, sign, word_tag};
+use vocabulary::{Tag, is_digit, is_letter, number_value, run, sign, word_tag};
 
 /// What the bytes begin with, inside of a comment or outside.
 fn lead(rest: &[u8], inside: bool) -> Lead
@@ -22,12 +21,12 @@ fn lead(rest: &[u8], inside: bool) -> Lead
     }
 }
 
-/// The place of the next symbol: what lies before it is separators and comments.
+/// The place of the first symbol at `from` or behind it: what lies before is separators and comments.
 fn skip(source: &[u8], from: usize) -> Result<usize, Fault>
-    requires { from ≤ length source.now }
-    ensures { MatchResult result (λ at. (at ≤ length source.now) × (skipped 0 0 from (drop from source.now) ≡ Ok at)) (λ e. skipped 0 0 from (drop from source.now) ≡ Err e) }
+    ensures is { result ≡ place_from source.now from }
+    ensures within { IfOk result (λ at. at ≤ length source.now) }
 {
-    let mut at = from;
+    let mut at = from.min(source.len());
     let mut depth: usize = 0;
     let mut opened: usize = 0;
     'turns: loop {
@@ -42,6 +41,7 @@ fn skip(source: &[u8], from: usize) -> Result<usize, Fault>
                     })
                 };
             }
+            Lead::Stop => return Ok(at),
             Lead::Open => {
                 opened = at;
                 depth = 1;
@@ -56,7 +56,6 @@ fn skip(source: &[u8], from: usize) -> Result<usize, Fault>
                 at += 2;
             }
             Lead::Pass => at += 1,
-            Lead::Stop => return Ok(at),
         }
     }
 }
@@ -73,51 +72,23 @@ fn word(text: &[u8]) -> Symbol<'_>
     }
 }
 
-/// The symbol that stands at a place, where no separator and no comment stands.
-fn symbol_at<'a>(source: &'a [u8], at: usize) -> Result<Lexeme<'a>, Fault>
-    requires { at ≤ length source.now }
-    ensures is { MatchResult result (λ l. symbol_at source.now at ≡ Ok (seen l)) (λ e. symbol_at source.now at ≡ Err e) }
-    ensures end { IfOk result (λ l. l.end ≡ end_of (seen l)) }
-    ensures ends { IfOk result (λ l. is_end l.symbol ≡ ends (seen l)) }
-    ensures within { IfOk result (λ l. l.end ≤ length source.now) }
+/// The symbol that the bytes begin with, where no separator and no comment stands in front.
+fn front(rest: &[u8]) -> Result<Symbol<'_>, FaultKind>
+    ensures is { MatchResult result (λ s. front_of rest.now ≡ Ok (tag_of s, length (text_of s))) (λ kind. front_of rest.now ≡ Err kind) }
+    ensures text { IfOk result (λ s. text_of s ≡ take (length (text_of s)) rest.now) }
+    ensures ends { IfOk result (λ s. is_end s ≡ (length (text_of s) == 0)) }
 {
-    if at == source.len() {
-        return Ok(Lexeme {
-            symbol: Symbol::End,
-            place: at,
-            end: at,
-        });
-    }
-    let first = source[at];
-    if is_letter(first) {
-        let end = run_end(source, at);
-        Ok(Lexeme {
-            symbol: word(&source[at..end]),
-            place: at,
-            end,
-        })
-    } else if is_digit(first) {
-        let end = run_end(source, at);
-        let text = &source[at..end];
-        match number_value(text) {
-            Ok(_) => Ok(Lexeme {
-                symbol: Symbol::Number(text),
-                place: at,
-                end,
-            }),
-            Err(kind) => Err(Fault { kind, place: at }),
+    match rest {
+        [] => Ok(Symbol::End),
+        [first, ..] if is_letter(*first) => Ok(word(&rest[..run(rest)])),
+        [first, ..] if is_digit(*first) => {
+            let text = &rest[..run(rest)];
+            number_value(text)?;
+            Ok(Symbol::Number(text))
         }
-    } else {
-        match sign(&source[at..]) {
-            Some((tag, width)) => Ok(Lexeme {
-                symbol: Symbol::Sign(tag, &source[at..at + width]),
-                place: at,
-                end: at + width,
-            }),
-            None => Err(Fault {
-                kind: FaultKind::StrayByte,
-                place: at,
-            }),
+        _ => {
+            let (tag, width) = sign(rest).ok_or(FaultKind::StrayByte)?;
+            Ok(Symbol::Sign(tag, &rest[..width]))
         }
     }
 }
@@ -129,6 +100,8 @@ pub fn next_symbol<'a>(source: &'a [u8], from: usize) -> Result<Lexeme<'a>, Faul
     ensures ends { IfOk result (λ l. is_end l.symbol ≡ ends (seen l)) }
     ensures within { IfOk result (λ l. l.end ≤ length source.now) }
 {
-    let at = skip(source, from.min(source.len()))?;
-    symbol_at(source, at)
+    let place = skip(source, from)?;
+    let symbol = front(&source[place..]).map_err(|kind| Fault { kind, place })?;
+    let end = place + symbol.text().len();
+    Ok(Lexeme { symbol, place, end })
 }

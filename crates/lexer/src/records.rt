@@ -1,6 +1,6 @@
 ghost use Rattle.std.specs.Prelude.{◌≡◌, ◌≤◌, length, take, drop, Some, None, Ok, Err, MatchResult};
-ghost use Rattle.lexer.specs.Scan.{seen, symbols_of, symbol_limit, byte_limit, tag_of, text_of, is_end};
-ghost use Rattle.lexer.specs.Records.{recorded, stored, scanning, kept};
+ghost use Rattle.lexer.specs.Scan.{seen, byte_limit, tag_of, text_of, is_end};
+ghost use Rattle.lexer.specs.Records.{records_of, scanning, kept};
 ghost use Rattle.lexer.specs.Reading.{Lawful};
 ghost use Rattle.lexer.specs.Refusals.{LawfulRefusal};
 
@@ -38,40 +38,38 @@ fn record_of(lexeme: Lexeme) -> Option<SymbolRecord>
     }
 }
 
-/// Writes the symbols of a source into the list, and answers how many; a fault leaves some of them written.
-fn fill(source: &[u8], records: &mut [SymbolRecord]) -> Result<usize, Fault>
-    requires { (length source.now ≤ byte_limit) × (symbol_limit ≤ length records.old) }
-    ensures { MatchResult result (λ n. (n ≤ length records.new) × (recorded (symbols_of source.now) ≡ Ok (take n records.new)) × (drop n records.new ≡ drop n records.old)) (λ e. recorded (symbols_of source.now) ≡ Err e) }
+/// Writes the symbols of a source into the list, one to a slot, and answers how many; a fault leaves some of them written.
+fn fill(source: &[u8], slots: &mut [SymbolRecord]) -> Result<usize, Fault>
+    ensures { MatchResult result (λ n. (n ≤ length slots.new) × (records_of (length slots.old) source.now ≡ Ok (take n slots.new)) × (drop n slots.new ≡ drop n slots.old)) (λ e. records_of (length slots.old) source.now ≡ Err e) }
 {
+    if source.len() > MAX_BYTES {
+        return Err(Fault {
+            kind: FaultKind::SourceTooLong,
+            place: MAX_BYTES,
+        });
+    }
     let mut at = 0;
-    let mut count = 0;
-    'symbols: loop {
+    for (count, slot) in slots.iter_mut().enumerate() {
         let lexeme = next_symbol(source, at)?;
         let Some(record) = record_of(lexeme) else {
             return Ok(count);
         };
-        if count == MAX_SYMBOLS {
-            return Err(Fault {
-                kind: FaultKind::TooManySymbols,
-                place: lexeme.place,
-            });
-        }
-        records[count] = record;
-        count += 1;
+        *slot = record;
         at = lexeme.end;
     }
-}
-
-/// Zeroes the list, and answers the fault.
-fn refused(records: &mut [SymbolRecord], fault: Fault) -> Result<usize, Fault>
-    ensures { (result, records.new) ≡ stored records.old (Err fault) }
-{
-    records.fill(SymbolRecord::ZERO);
-    Err(fault)
+    let surplus = next_symbol(source, at)?;
+    match surplus.symbol {
+        Symbol::End => Ok(slots.len()),
+        _ => Err(Fault {
+            kind: FaultKind::TooManySymbols,
+            place: surplus.place,
+        }),
+    }
 }
 
 /// Fills the list with the symbols of a source and answers how many there are; the rest of the list stays.
 /// A list under 1,024 records is refused untouched; on any other fault the whole list is zeroed.
+#[tactic(auto, using(crate::proofs::Readings::lawful, crate::proofs::Refusals::lawful_refusal))]
 pub fn scan(source: &[u8], records: &mut [SymbolRecord]) -> Result<usize, Fault>
     ensures answer { (result, records.new) ≡ scanning source.now records.old }
     ensures law { Lawful source.now }
@@ -83,17 +81,9 @@ pub fn scan(source: &[u8], records: &mut [SymbolRecord]) -> Result<usize, Fault>
             place: 0,
         });
     }
-    if source.len() > MAX_BYTES {
-        return refused(
-            records,
-            Fault {
-                kind: FaultKind::SourceTooLong,
-                place: MAX_BYTES,
-            },
-        );
+    let filled = fill(source, &mut records[..MAX_SYMBOLS]);
+    if filled.is_err() {
+        records.fill(SymbolRecord::ZERO);
     }
-    match fill(source, records) {
-        Ok(count) => Ok(count),
-        Err(fault) => refused(records, fault),
-    }
+    filled
 }

@@ -1,7 +1,7 @@
 use vocabulary::Tag;
 
 /// A symbol, with the very stretch of source that it was read from.
-#[derive(Clone, Copy)]
+#[derive(Clone, Copy, PartialEq, Eq, Debug)]
 pub enum Symbol<'a> {
     /// A reserved word.
     Reserved(Tag, &'a [u8]),
@@ -16,7 +16,7 @@ pub enum Symbol<'a> {
 }
 
 /// A symbol, its place, and the place behind its last byte.
-#[derive(Clone, Copy)]
+#[derive(Clone, Copy, PartialEq, Eq, Debug)]
 pub struct Lexeme<'a> {
     pub symbol: Symbol<'a>,
     pub place: usize,
@@ -24,7 +24,7 @@ pub struct Lexeme<'a> {
 }
 
 /// What is kept of a symbol: its tag and its place.
-#[derive(Clone, Copy)]
+#[derive(Clone, Copy, PartialEq, Eq, Debug)]
 pub struct SymbolRecord {
     pub tag: Tag,
     pub place: u16,

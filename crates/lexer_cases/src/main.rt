@@ -9,7 +9,6 @@ mod decode;
 use decode::decode;
 use lexer::{MAX_SYMBOLS, Symbol, SymbolRecord, next_symbol, scan};
 use std::io::{BufRead, BufReader};
-use std::str::from_utf8;
 use std::{env, fs, io};
 use vocabulary::{Tag, number_value};
 
@@ -17,19 +16,15 @@ const SHOWN: usize = 12;
 
 // What a number at a place stands for.
 fn value_at(source: &[u8], place: usize) -> Option<i32> {
-    match next_symbol(source, place) {
-        Ok(lexeme) => match lexeme.symbol {
-            Symbol::Number(text) => number_value(text).ok(),
-            _ => None,
-        },
-        Err(_) => None,
+    match next_symbol(source, place).ok()?.symbol {
+        Symbol::Number(text) => number_value(text).ok(),
+        _ => None,
     }
 }
 
 // The place and the tag of a symbol, and the value of a number.
 fn show(rt: &HostRuntime, source: &[u8], record: SymbolRecord) -> io::Result<()> {
-    let place = record.place;
-    let tag = from_utf8(record.tag.spelling()).unwrap_or("");
+    let SymbolRecord { tag, place } = record;
     match value_at(source, place as usize) {
         Some(value) => print!(rt; " {place} {tag}={value}"),
         None => print!(rt; " {place} {tag}"),
@@ -41,8 +36,7 @@ fn list(rt: &HostRuntime, source: &[u8], records: &[SymbolRecord]) -> io::Result
     for record in records.iter().take(SHOWN) {
         show(rt, source, *record)?;
     }
-    let count = records.len();
-    println!(rt; " ({count})")
+    println!(rt; " ({})", records.len())
 }
 
 // One source, and its answer.
@@ -50,13 +44,8 @@ fn answer(rt: &HostRuntime, line: &str, source: &[u8]) -> io::Result<()> {
     print!(rt; "{line} =>")?;
     let mut records = [SymbolRecord::ZERO; MAX_SYMBOLS];
     match scan(source, &mut records) {
-        Err(fault) => {
-            let number = fault.kind.number();
-            let place = fault.place;
-            println!(rt; " refused {number} at {place}")
-        }
-        Ok(count) if count <= MAX_SYMBOLS => list(rt, source, &records[0..count]),
-        Ok(_) => Ok(()),
+        Err(fault) => println!(rt; " {fault}"),
+        Ok(count) => list(rt, source, &records[..count.min(MAX_SYMBOLS)]),
     }
 }
 
@@ -67,17 +56,10 @@ fn held_after(rt: &HostRuntime, size: usize, source: &[u8]) -> io::Result<()> {
         place: 7
     }; size]?;
     if let Err(fault) = scan(source, &mut records) {
-        let number = fault.kind.number();
-        let place = fault.place;
-        print!(rt; "{size} records => refused {number} at {place}, then")?;
+        print!(rt; "{size} records => {fault}, then")?;
     }
-    for record in records
-        .iter()
-        .take(1)
-        .chain(records.iter().skip(size - size.min(1)))
-    {
-        let place = record.place;
-        print!(rt; " {place}")?;
+    for record in records.first().into_iter().chain(records.last()) {
+        print!(rt; " {}", record.place)?;
     }
     println!(rt; "")
 }

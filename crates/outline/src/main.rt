@@ -13,11 +13,11 @@ use syntax::{NodeKind, TreeRecord};
 
 // The name that a record has the place and the length of.
 fn name(source: &[u8], record: TreeRecord) -> &str {
-    let start = record.place as usize;
-    if start > source.len() || record.value > source.len() - start {
-        return "";
-    }
-    from_utf8(&source[start..start + record.value]).unwrap_or("")
+    source
+        .get(record.place as usize..)
+        .and_then(|behind| behind.get(..record.value))
+        .and_then(|text| from_utf8(text).ok())
+        .unwrap_or("")
 }
 
 // What a line says behind the kind: a name, a value, the place of an END, or an operator.
@@ -30,40 +30,31 @@ fn detail(rt: &HostRuntime, source: &[u8], record: TreeRecord) -> io::Result<()>
         | NodeKind::Closing
         | NodeKind::Constant
         | NodeKind::Procedure
-        | NodeKind::Module => {
-            let name = name(source, record);
-            println!(rt; " {name}")
-        }
+        | NodeKind::Module => println!(rt; " {}", name(source, record)),
         NodeKind::Number
         | NodeKind::Negative
         | NodeKind::If
         | NodeKind::While
         | NodeKind::Loop
-        | NodeKind::For => {
-            let value = record.value;
-            println!(rt; " {value}")
-        }
-        NodeKind::Unary | NodeKind::Binary => {
-            let operator = from_utf8(record.operator.spelling()).unwrap_or("");
-            println!(rt; " {operator}")
-        }
+        | NodeKind::For => println!(rt; " {}", record.value),
+        NodeKind::Unary | NodeKind::Binary => println!(rt; " {}", record.operator),
         _ => println!(rt; ""),
     }
 }
 
 // Whether a record has no place of its own.
 fn is_placeless(kind: NodeKind) -> bool {
-    match kind {
+    matches!(
+        kind,
         NodeKind::Range
-        | NodeKind::Terms
-        | NodeKind::Limits
-        | NodeKind::Variable
-        | NodeKind::Bounds
-        | NodeKind::Parameters
-        | NodeKind::Heading
-        | NodeKind::Block => true,
-        _ => false,
-    }
+            | NodeKind::Terms
+            | NodeKind::Limits
+            | NodeKind::Variable
+            | NodeKind::Bounds
+            | NodeKind::Parameters
+            | NodeKind::Heading
+            | NodeKind::Block
+    )
 }
 
 // A line of the outline: two blanks for each level, the place, the kind and what belongs to it.
@@ -71,12 +62,10 @@ fn show(rt: &HostRuntime, source: &[u8], record: TreeRecord, depth: usize) -> io
     for _ in 0..depth {
         print!(rt; "  ")?;
     }
-    let kind = record.kind;
-    if is_placeless(kind) {
-        print!(rt; "- {kind:?}")?;
+    if is_placeless(record.kind) {
+        print!(rt; "- {:?}", record.kind)?;
     } else {
-        let place = record.place;
-        print!(rt; "{place} {kind:?}")?;
+        print!(rt; "{} {:?}", record.place, record.kind)?;
     }
     detail(rt, source, record)
 }
@@ -87,19 +76,14 @@ fn main(rt: HostRuntime) -> io::Result<()> {
     let mut symbols = [SymbolRecord::ZERO; MAX_SYMBOLS];
     let mut tree = [TreeRecord::ZERO; MAX_RECORDS];
     match parse(&source, &mut symbols, &mut tree) {
-        Err(fault) => {
-            let number = fault.kind.number();
-            let place = fault.place;
-            println!(rt; "refused {number} at {place}")
-        }
+        Err(fault) => println!(rt; "{fault}"),
         Ok(parsed) => {
             for line in outline(rt.alloc(), &tree, parsed.root)? {
                 if let Some(record) = tree.get(line.index) {
                     show(&rt, &source, *record, line.depth)?;
                 }
             }
-            let records = parsed.records;
-            println!(rt; "{records} records")
+            println!(rt; "{} records", parsed.records)
         }
     }
 }

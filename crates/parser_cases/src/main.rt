@@ -32,15 +32,8 @@ fn verdict(
     tree: &mut [TreeRecord],
 ) -> io::Result<()> {
     match parse(source, symbols, tree) {
-        Err(fault) => {
-            let number = fault.kind.number();
-            let place = fault.place;
-            print!(rt; " => refused {number} at {place}")
-        }
-        Ok(parsed) => {
-            let records = parsed.records;
-            print!(rt; " => {records} records")
-        }
+        Err(fault) => print!(rt; " => {fault}"),
+        Ok(parsed) => print!(rt; " => {} records", parsed.records),
     }
 }
 
@@ -65,21 +58,11 @@ fn held_after(
     print!(rt; "{symbol_count} symbols, {record_count} records")?;
     verdict(rt, source, &mut symbols, &mut tree)?;
     print!(rt; ", then")?;
-    for record in symbols
-        .iter()
-        .take(1)
-        .chain(symbols.iter().skip(symbol_count - symbol_count.min(1)))
-    {
-        let place = record.place;
-        print!(rt; " {place}")?;
+    for record in symbols.first().into_iter().chain(symbols.last()) {
+        print!(rt; " {}", record.place)?;
     }
-    for record in tree
-        .iter()
-        .take(1)
-        .chain(tree.iter().skip(record_count - record_count.min(1)))
-    {
-        let place = record.place;
-        print!(rt; " {place}")?;
+    for record in tree.first().into_iter().chain(tree.last()) {
+        print!(rt; " {}", record.place)?;
     }
     println!(rt; "")
 }

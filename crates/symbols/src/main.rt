@@ -8,16 +8,15 @@ use std::str::from_utf8;
 
 // The text of the symbol at a place.
 fn text_at(source: &[u8], place: usize) -> &str {
-    match next_symbol(source, place) {
-        Ok(lexeme) => from_utf8(lexeme.symbol.text()).unwrap_or(""),
-        Err(_) => "",
-    }
+    next_symbol(source, place)
+        .ok()
+        .and_then(|lexeme| from_utf8(lexeme.symbol.text()).ok())
+        .unwrap_or("")
 }
 
 // A line for the symbol of one record: its place, its tag and its text.
 fn show(rt: &HostRuntime, source: &[u8], record: SymbolRecord) -> io::Result<()> {
-    let place = record.place;
-    let tag = from_utf8(record.tag.spelling()).unwrap_or("");
+    let SymbolRecord { tag, place } = record;
     let text = text_at(source, place as usize);
     println!(rt; "{place} {tag} {text}")
 }
@@ -27,11 +26,7 @@ fn main(rt: HostRuntime) -> io::Result<()> {
     rt.stdin().read_to_end(&mut source)?;
     let mut records = [SymbolRecord::ZERO; MAX_SYMBOLS];
     match scan(&source, &mut records) {
-        Err(fault) => {
-            let number = fault.kind.number();
-            let place = fault.place;
-            println!(rt; "refused {number} at {place}")
-        }
+        Err(fault) => println!(rt; "{fault}"),
         Ok(count) => {
             for record in records.iter().take(count) {
                 show(&rt, &source, *record)?;

@@ -1,18 +1,14 @@
 ghost use Rattle.std.specs.Prelude.{◌≡◌, ◌+◌, ◌≤◌, length};
 ghost use Rattle.syntax.specs.Symbols.{word_length, number_at};
 
-use vocabulary::{is_alphanumeric, number_value};
+use vocabulary::{number_value, run};
 
 /// How long the word or number at a place is.
 pub fn word_length(source: &[u8], place: usize) -> usize
     ensures is { result ≡ word_length source.now place }
     ensures within { place ≤ length source.now → place + result ≤ length source.now }
 {
-    let mut at = place;
-    while at < source.len() && is_alphanumeric(source[at]) {
-        at += 1;
-    }
-    at - place
+    source.get(place..).map_or(0, |rest| run(rest))
 }
 
 /// The value of the number at a place.

@@ -1,5 +1,6 @@
 -- Classes of bytes.
-use Rattle.std.specs.Prelude.{ℕ, ◌+◌, Bool, cond, ◌&&◌, ◌||◌, List, [], ◌∷◌, ◌==◌, nat_le}
+use Rattle.std.specs.Prelude.{ℕ, Bool, ◌&&◌, ◌||◌, List, ◌==◌, nat_le}
+use Rattle.std.specs.List.{prefix_len}
 
 -- an ASCII letter
 abbrev pub letter : ℕ → Bool
@@ -19,5 +20,4 @@ separator c = c == 32 || (c == 9 || (c == 10 || c == 13))
 
 -- how many letters and digits stand in front
 abbrev pub run : List ℕ → ℕ
-run [] = 0
-run (c ∷ cs) = cond (alphanumeric c) (1 + run cs) 0
+run bytes = prefix_len alphanumeric bytes

@@ -1,5 +1,5 @@
 -- What a number's text stands for.
-use Rattle.std.specs.Prelude.{ℕ, ◌+◌, ◌-◌, ◌*◌, cond, ◌&&◌, List, [], ◌∷◌, length, take, ℤ, pos, Some, None, Ok, Err, Option, Result, ◌==◌, int_le, nat_le, nat_lt, slice_index, unsigned_abs}
+use Rattle.std.specs.Prelude.{ℕ, ◌+◌, ◌-◌, ◌*◌, ◌^◌, cond, ◌&&◌, List, [], ◌∷◌, length, take, ℤ, pos, Some, None, Ok, Err, Option, Result, ◌==◌, int_le, nat_le, nat_lt, slice_index}
 use Rattle.faults.specs.declared.kind.FaultKind.{FaultKind}
 use Rattle.faults.specs.declared.kind.FaultKind.TheVariants.{MalformedNumber, NumberTooLarge}
 use Rattle.integer.specs.Ends.{integer}
@@ -14,6 +14,10 @@ abbrev pub digits_value : ℕ → ℕ → List ℕ → Option ℕ
 digits_value base before [] = Some before
 digits_value base before (c ∷ cs) =
     cond (nat_lt (digit_value c) base) (digits_value base (before * base + digit_value c) cs) None
+
+-- no value above this is told apart
+abbrev pub ceiling : ℕ
+ceiling = 2 ^ 32 - 1
 
 -- the base that a number's last byte names: B octal, H hexadecimal, else decimal
 abbrev pub base_by : ℕ → ℕ
@@ -30,10 +34,6 @@ digits_of text = take (cond (base_of text == 10) (length text) (length text - 1)
 -- the value of a text that begins with a digit, none if it is malformed
 abbrev pub number_value : List ℕ → Option ℕ
 number_value text = cond (digit (slice_index text 0)) (digits_value (base_of text) 0 (digits_of text)) None
-
--- the least natural number that is no INTEGER
-abbrev pub beyond : ℕ
-beyond = unsigned_abs integer.high + 1
 
 -- a value that is an INTEGER, or what is wrong with the number
 abbrev pub judged : Option ℕ → Result ℤ FaultKind

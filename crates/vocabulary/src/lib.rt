@@ -7,8 +7,8 @@ mod signs;
 pub mod tag;
 mod words;
 
-pub use characters::{is_alphanumeric, is_digit, is_letter};
-pub use numbers::number_value;
+pub use characters::{is_alphanumeric, is_digit, is_letter, run};
+pub use numbers::{digit_value, digits_value, number_value};
 pub use signs::sign;
 pub use tag::Tag;
 pub use words::word_tag;

@@ -34,7 +34,7 @@ fn single_sign(first: u8) -> Option<Tag>
 /// The longest sign that the bytes begin with: its tag and its length.
 pub fn sign(rest: &[u8]) -> Option<(Tag, usize)>
     ensures is { result ≡ sign_of rest.now }
-    ensures room { IfSome result (λ p. p.1 ≤ length rest.now) }
+    ensures room { IfSome result (λ p. (1 ≤ p.1) × (p.1 ≤ length rest.now)) }
 {
     match rest {
         [b'<', b'>', ..] => Some((Tag::NotEqual, 2)),
@@ -42,10 +42,7 @@ pub fn sign(rest: &[u8]) -> Option<(Tag, usize)>
         [b'>', b'=', ..] => Some((Tag::AtLeast, 2)),
         [b':', b'=', ..] => Some((Tag::Becomes, 2)),
         [b'.', b'.', ..] => Some((Tag::Range, 2)),
-        [first, ..] => match single_sign(*first) {
-            Some(tag) => Some((tag, 1)),
-            None => None,
-        },
+        [first, ..] => Some((single_sign(*first)?, 1)),
         [] => None,
     }
 }

@@ -1,9 +1,11 @@
-ghost use Rattle.std.specs.Prelude.{◌≡◌};
+ghost use Rattle.std.specs.Prelude.{◌≡◌, Some};
 ghost use Rattle.vocabulary.specs.Tags.{spelt};
+
+use std::fmt;
 
 /// What a symbol is: a reserved word, an identifier, a number or a sign.
 /// `&`, `~` and `<>` have the tags of AND, NOT and `#`.
-#[derive(Clone, Copy)]
+#[derive(Clone, Copy, PartialEq, Eq, Debug)]
 pub enum Tag {
     /// The end of the source, and the tag of a zeroed record.
     EndOfSource,
@@ -74,74 +76,82 @@ pub enum Tag {
 
 impl Tag {
     /// How a symbol with this tag is written, or what it is called where that differs from symbol to symbol.
-    pub fn spelling(self) -> &'static [u8]
+    pub fn spelling(self) -> &'static str
         ensures { result.now ≡ spelt self }
     {
         match self {
-            Tag::EndOfSource => b"end",
-            Tag::And => b"AND",
-            Tag::Array => b"ARRAY",
-            Tag::Begin => b"BEGIN",
-            Tag::By => b"BY",
-            Tag::Case => b"CASE",
-            Tag::Const => b"CONST",
-            Tag::Definition => b"DEFINITION",
-            Tag::Div => b"DIV",
-            Tag::Do => b"DO",
-            Tag::Else => b"ELSE",
-            Tag::Elsif => b"ELSIF",
-            Tag::End => b"END",
-            Tag::Exit => b"EXIT",
-            Tag::Export => b"EXPORT",
-            Tag::For => b"FOR",
-            Tag::From => b"FROM",
-            Tag::If => b"IF",
-            Tag::Implementation => b"IMPLEMENTATION",
-            Tag::Import => b"IMPORT",
-            Tag::In => b"IN",
-            Tag::Loop => b"LOOP",
-            Tag::Mod => b"MOD",
-            Tag::Module => b"MODULE",
-            Tag::Not => b"NOT",
-            Tag::Of => b"OF",
-            Tag::Or => b"OR",
-            Tag::Pointer => b"POINTER",
-            Tag::Procedure => b"PROCEDURE",
-            Tag::Qualified => b"QUALIFIED",
-            Tag::Record => b"RECORD",
-            Tag::Repeat => b"REPEAT",
-            Tag::Return => b"RETURN",
-            Tag::Set => b"SET",
-            Tag::Then => b"THEN",
-            Tag::To => b"TO",
-            Tag::Type => b"TYPE",
-            Tag::Until => b"UNTIL",
-            Tag::Var => b"VAR",
-            Tag::While => b"WHILE",
-            Tag::With => b"WITH",
-            Tag::Identifier => b"identifier",
-            Tag::Number => b"number",
-            Tag::Plus => b"+",
-            Tag::Minus => b"-",
-            Tag::Times => b"*",
-            Tag::Equal => b"=",
-            Tag::NotEqual => b"#",
-            Tag::Less => b"<",
-            Tag::AtMost => b"<=",
-            Tag::Greater => b">",
-            Tag::AtLeast => b">=",
-            Tag::Becomes => b":=",
-            Tag::Period => b".",
-            Tag::Range => b"..",
-            Tag::Comma => b",",
-            Tag::Semicolon => b";",
-            Tag::Colon => b":",
-            Tag::OpenRound => b"(",
-            Tag::CloseRound => b")",
-            Tag::OpenSquare => b"[",
-            Tag::CloseSquare => b"]",
-            Tag::OpenCurly => b"{",
-            Tag::CloseCurly => b"}",
+            Tag::EndOfSource => "end",
+            Tag::And => "AND",
+            Tag::Array => "ARRAY",
+            Tag::Begin => "BEGIN",
+            Tag::By => "BY",
+            Tag::Case => "CASE",
+            Tag::Const => "CONST",
+            Tag::Definition => "DEFINITION",
+            Tag::Div => "DIV",
+            Tag::Do => "DO",
+            Tag::Else => "ELSE",
+            Tag::Elsif => "ELSIF",
+            Tag::End => "END",
+            Tag::Exit => "EXIT",
+            Tag::Export => "EXPORT",
+            Tag::For => "FOR",
+            Tag::From => "FROM",
+            Tag::If => "IF",
+            Tag::Implementation => "IMPLEMENTATION",
+            Tag::Import => "IMPORT",
+            Tag::In => "IN",
+            Tag::Loop => "LOOP",
+            Tag::Mod => "MOD",
+            Tag::Module => "MODULE",
+            Tag::Not => "NOT",
+            Tag::Of => "OF",
+            Tag::Or => "OR",
+            Tag::Pointer => "POINTER",
+            Tag::Procedure => "PROCEDURE",
+            Tag::Qualified => "QUALIFIED",
+            Tag::Record => "RECORD",
+            Tag::Repeat => "REPEAT",
+            Tag::Return => "RETURN",
+            Tag::Set => "SET",
+            Tag::Then => "THEN",
+            Tag::To => "TO",
+            Tag::Type => "TYPE",
+            Tag::Until => "UNTIL",
+            Tag::Var => "VAR",
+            Tag::While => "WHILE",
+            Tag::With => "WITH",
+            Tag::Identifier => "identifier",
+            Tag::Number => "number",
+            Tag::Plus => "+",
+            Tag::Minus => "-",
+            Tag::Times => "*",
+            Tag::Equal => "=",
+            Tag::NotEqual => "#",
+            Tag::Less => "<",
+            Tag::AtMost => "<=",
+            Tag::Greater => ">",
+            Tag::AtLeast => ">=",
+            Tag::Becomes => ":=",
+            Tag::Period => ".",
+            Tag::Range => "..",
+            Tag::Comma => ",",
+            Tag::Semicolon => ";",
+            Tag::Colon => ":",
+            Tag::OpenRound => "(",
+            Tag::CloseRound => ")",
+            Tag::OpenSquare => "[",
+            Tag::CloseSquare => "]",
+            Tag::OpenCurly => "{",
+            Tag::CloseCurly => "}",
         }
+    }
+}
+
+impl fmt::Display for Tag {
+    ghost output = { λ tag. Some (spelt tag) };
+
+    fn fmt<W: fmt::Write>(&self, f: &mut fmt::Formatter<W>) -> fmt::Result {
+        f.write_str(self.spelling())
     }
 }

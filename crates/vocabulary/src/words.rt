@@ -51,12 +51,10 @@ const RESERVED: [Tag; 40] = [
 fn tag_among(tags: &[Tag], word: &[u8]) -> Tag
     ensures { result ≡ named tags.now word.now }
 {
-    for tag in tags {
-        if tag.spelling() == word {
-            return *tag;
-        }
-    }
-    Tag::Identifier
+    tags.iter()
+        .find(|tag| tag.spelling().as_bytes() == word)
+        .copied()
+        .unwrap_or(Tag::Identifier)
 }
 
 /// The tag of a word: its own if it is reserved, else an identifier's.

@@ -1,15 +1,19 @@
 use Rattle.std.proofs.Common.{sym, ◌∙◌, arith, rules}
 use Rattle.std.proofs.lemmas.List.{length-take, length-drop}
-use Rattle.lexer.proofs.Skips.{turn}
+use Rattle.lexer.proofs.Skips.{turn, arrives}
 use Rattle.lexer.proofs.next.skip.Goals as goal
 
-pub returns-then-depth-eq0 : goal.returns-then-depth-eq0
-returns-then-depth-eq0 c =
-    let t = turn c.args.source.now c.turns.at c.turns.depth c.turns.opened _ c.in-Done.ensures.is in search rules
+pub returns-else-depth-eq0-clause-is : goal.returns-else-depth-eq0-clause-is
+returns-else-depth-eq0-clause-is c =
+    let a = arrives c.args.source.now c.args.from c.min-at.result c.turns.at c.turns.depth c.turns.opened _ c.min-at.ensures c.turns.invariant.2 c.in-Done.ensures.is in search rules
 
-pub returns-else-depth-eq0 : goal.returns-else-depth-eq0
-returns-else-depth-eq0 c =
-    let t = turn c.args.source.now c.turns.at c.turns.depth c.turns.opened _ c.in-Done.ensures.is in search rules
+pub returns-then-depth-eq0-clause-is : goal.returns-then-depth-eq0-clause-is
+returns-then-depth-eq0-clause-is c =
+    let a = arrives c.args.source.now c.args.from c.min-at.result c.turns.at c.turns.depth c.turns.opened _ c.min-at.ensures c.turns.invariant.2 c.in-Done.ensures.is in search rules
+
+pub returns-in-Stop-clause-is : goal.returns-in-Stop-clause-is
+returns-in-Stop-clause-is c =
+    arrives c.args.source.now c.args.from c.min-at.result c.turns.at c.turns.depth c.turns.opened _ c.min-at.ensures c.turns.invariant.2 c.in-Stop.ensures.is
 
 pub turns-preserved-in-Open : goal.turns-preserved-in-Open
 turns-preserved-in-Open c =
@@ -34,7 +38,3 @@ turns-preserved c =
     let t = turn c.args.source.now c.turns.at c.turns.depth c.turns.opened _ c.in-Pass.ensures.is in
     let r = simp (length-take, length-drop) at c.in-Pass.ensures.room in
     (omega arith, omega arith, sym t ∙ c.turns.invariant.2)
-
-pub returns-in-Stop : goal.returns-in-Stop
-returns-in-Stop c =
-    let t = turn c.args.source.now c.turns.at c.turns.depth c.turns.opened _ c.in-Stop.ensures.is in search rules

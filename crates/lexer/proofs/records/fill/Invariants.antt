@@ -1,14 +1,11 @@
-use Rattle.std.proofs.Common.{◌≡◌, ◌-◌, ◌≤◌, take, drop}
-use Rattle.lexer.specs.Scan.{symbols_from, symbols_of, symbol_limit}
+use Rattle.std.proofs.Common.{◌≡◌, ◌-◌, length, take, drop}
+use Rattle.lexer.specs.Scan.{symbols_from}
 use Rattle.lexer.specs.Records.{recorded}
 use Rattle.lexer.proofs.Turns.{behind}
 use Rattle.lexer.proofs.records.fill.Given as goal
 
-abbrev pub invariant-symbols : goal.invariant-symbols
-invariant-symbols l =
-    (l.count ≤ symbol_limit)
-    × (behind (take l.count l.records) (recorded (symbols_from (symbol_limit - l.count) l.source l.at)) ≡ recorded (symbols_of l.source))
-    × (drop l.count l.records ≡ drop l.count l.initial.records)
-
-abbrev pub decreases-symbols : goal.decreases-symbols
-decreases-symbols l = symbol_limit - l.count
+abbrev pub invariant-loop-count : goal.invariant-loop-count
+invariant-loop-count l = record {
+  read : behind (take l.count l.slots) (recorded (symbols_from (length l.slots - l.count) l.source l.at)) ≡ recorded (symbols_from (length l.slots) l.source 0);
+  rest : drop l.count l.slots ≡ drop l.count l.fn.slots;
+}
