@@ -9,7 +9,6 @@ use Rattle.instructions.specs.Moves.{ok, fail, pull, push, operand, variable, st
 use Rattle.instructions.specs.Table.{obeyed, indexed}
 use Rattle.instructions.specs.Values.{signed, natural}
 use Rattle.instructions.specs.Steps.{View, gone, step, met, none, effect, effect_by, settled}
-use Rattle.instructions.specs.declared.answers.PortCall.TheVariants.{None as Nothing}
 use Rattle.instructions.specs.declared.answers.Fault.TheVariants.{Trap as Trapping}
 use Rattle.instructions.specs.declared.answers.Status.TheVariants.{Running, Trapped}
 use Rattle.instructions.specs.declared.answers.Trap.{Trap}
@@ -38,12 +37,12 @@ traced c s m t = record { view = seen c s m; trail = t }
 
 -- what the table says of an instruction that leaves the port alone: it is carried out
 pub record Obeys (i : Instruction) (s s₁ : Memory) : Type 0 where
-  pub alone : asks i.operation ≡ Nothing
+  pub alone : asks i.operation ≡ None
   pub does : obeyed i.operation i.operand s ≡ ok tt s₁
 
 -- or it traps
 pub record Fails (i : Instruction) (x : Trap) (s s₁ : Memory) : Type 0 where
-  pub alone : asks i.operation ≡ Nothing
+  pub alone : asks i.operation ≡ None
   pub does : obeyed i.operation i.operand s ≡ fail (Trapping x) s₁
 
 pub fetches : (c : List Instruction) (i : Instruction) (gs vs ops : List ℤ) (cs : List Caller) (p : ℕ) (m : Meaning) → At c p i

@@ -1,7 +1,7 @@
 -- The number of each operation, and what each asks of the port.
-use Rattle.std.specs.Prelude.{ℕ, cond, List, [], ◌∷◌, length, nat_lt, slice_index_or}
+use Rattle.std.specs.Prelude.{ℕ, cond, List, [], ◌∷◌, length, Some, None, Option, nat_lt, slice_index_or}
 use Rattle.instructions.specs.declared.answers.PortCall.{PortCall}
-use Rattle.instructions.specs.declared.answers.PortCall.TheVariants.{None as Nothing, Take as TakeCall, Set as SetCall}
+use Rattle.instructions.specs.declared.answers.PortCall.TheVariants.{Take as TakeCall, Set as SetCall}
 use Rattle.instructions.specs.declared.operation.Operation.{Operation}
 use Rattle.instructions.specs.declared.operation.Operation.TheVariants.{End, Integer, Set, Global, StoreGlobal, Local, StoreLocal, Index, GlobalElement, StoreGlobalElement, LocalElement, StoreLocalElement, Copy, Swap, Add, Subtract, Multiply, Divide, Modulo, Negate, Absolute, Odd, Equal, Unequal, Less, LessEqual, Greater, GreaterEqual, Not, Union, Difference, Intersection, Element, In, Include, Exclude, Jump, JumpIf, JumpUnless, Advance, Channel, Take, Put, Call, Enter, Return, ReturnValue, NoResult, Other}
 
@@ -72,53 +72,7 @@ number_of NoResult = 47
 number_of (Other n) = n
 
 -- what an operation asks of the port: a sample, to set a value, or nothing
-abbrev pub asks : Operation → PortCall
-asks End = Nothing
-asks Integer = Nothing
-asks Set = Nothing
-asks Global = Nothing
-asks StoreGlobal = Nothing
-asks Local = Nothing
-asks StoreLocal = Nothing
-asks Index = Nothing
-asks GlobalElement = Nothing
-asks StoreGlobalElement = Nothing
-asks LocalElement = Nothing
-asks StoreLocalElement = Nothing
-asks Copy = Nothing
-asks Swap = Nothing
-asks Add = Nothing
-asks Subtract = Nothing
-asks Multiply = Nothing
-asks Divide = Nothing
-asks Modulo = Nothing
-asks Negate = Nothing
-asks Absolute = Nothing
-asks Odd = Nothing
-asks Equal = Nothing
-asks Unequal = Nothing
-asks Less = Nothing
-asks LessEqual = Nothing
-asks Greater = Nothing
-asks GreaterEqual = Nothing
-asks Not = Nothing
-asks Union = Nothing
-asks Difference = Nothing
-asks Intersection = Nothing
-asks Element = Nothing
-asks In = Nothing
-asks Include = Nothing
-asks Exclude = Nothing
-asks Jump = Nothing
-asks JumpIf = Nothing
-asks JumpUnless = Nothing
-asks Advance = Nothing
-asks Channel = Nothing
-asks Take = TakeCall
-asks Put = SetCall
-asks Call = Nothing
-asks Enter = Nothing
-asks Return = Nothing
-asks ReturnValue = Nothing
-asks NoResult = Nothing
-asks (Other n) = Nothing
+abbrev pub asks : Operation → Option PortCall
+asks Take = Some TakeCall
+asks Put = Some SetCall
+asks _ = None

@@ -8,7 +8,7 @@ use Rattle.instructions.specs.declared.answers.Fault.TheVariants.{Broken as Brok
 use Rattle.instructions.specs.declared.answers.Outcome.{Outcome}
 use Rattle.instructions.specs.declared.answers.Outcome.TheVariants.{Running as StillRunning, Ended as HasEnded, Trap, Waits, Broken as IsBroken}
 use Rattle.instructions.specs.declared.answers.PortCall.{PortCall}
-use Rattle.instructions.specs.declared.answers.PortCall.TheVariants.{None as Nothing, Take as TakeCall, Set as SetCall}
+use Rattle.instructions.specs.declared.answers.PortCall.TheVariants.{Take as TakeCall, Set as SetCall}
 use Rattle.instructions.specs.declared.answers.Status.{Status}
 use Rattle.instructions.specs.declared.answers.Status.TheVariants.{Running, Ended, Trapped, Broken}
 use Rattle.instructions.specs.declared.instruction.Instruction.{Instruction}
@@ -49,10 +49,10 @@ setting (Ok x) p c = sets x.0 x.1 c
 setting (Err e) p c = failing e p c
 
 -- an instruction by what it asks of the port
-abbrev pub effect_by : PortCall → Instruction → State → Effect
-effect_by Nothing i c = settled (obeyed i.operation i.operand (on c)).result i.place (obeyed i.operation i.operand (on c)).state
-effect_by TakeCall i c = taking (take c).result i.place (on (take c).state)
-effect_by SetCall i c = setting (put (on c)).result i.place (put (on c)).state
+abbrev pub effect_by : Option PortCall → Instruction → State → Effect
+effect_by None i c = settled (obeyed i.operation i.operand (on c)).result i.place (obeyed i.operation i.operand (on c)).state
+effect_by (Some TakeCall) i c = taking (take c).result i.place (on (take c).state)
+effect_by (Some SetCall) i c = setting (put (on c)).result i.place (put (on c)).state
 
 -- the effect of an instruction
 abbrev pub effect : Instruction → State → Effect

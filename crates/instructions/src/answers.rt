@@ -1,8 +1,10 @@
 ghost use Rattle.std.specs.Prelude.{◌≡◌};
 ghost use Rattle.instructions.specs.Traps.{trap_number};
 
+use std::fmt;
+
 /// Why a board stops at an instruction.
-#[derive(Clone, Copy)]
+#[derive(Clone, Copy, PartialEq, Eq, Debug)]
 pub enum Trap {
     /// A result is no INTEGER.
     Range = 1,
@@ -30,7 +32,7 @@ impl Trap {
 }
 
 /// Why an operation was not carried out.
-#[derive(Clone, Copy)]
+#[derive(Clone, Copy, PartialEq, Eq, Debug)]
 pub enum Fault {
     /// It has no effect here.
     Broken,
@@ -39,10 +41,8 @@ pub enum Fault {
 }
 
 /// What an operation calls of the port.
-#[derive(Clone, Copy)]
+#[derive(Clone, Copy, PartialEq, Eq, Debug)]
 pub enum PortCall {
-    /// Nothing.
-    None,
     /// It takes a sample.
     Take,
     /// It sets a value.
@@ -50,7 +50,7 @@ pub enum PortCall {
 }
 
 /// Whether a board goes on.
-#[derive(Clone, Copy)]
+#[derive(Clone, Copy, PartialEq, Eq, Debug)]
 pub enum Status {
     /// It goes on.
     Running,
@@ -63,7 +63,7 @@ pub enum Status {
 }
 
 /// What a run comes to.
-#[derive(Clone, Copy)]
+#[derive(Clone, Copy, PartialEq, Eq, Debug)]
 pub enum Outcome {
     /// The budget is spent.
     Running,
@@ -77,8 +77,23 @@ pub enum Outcome {
     Broken,
 }
 
+impl fmt::Display for Outcome {
+    fn fmt<W: fmt::Write>(&self, f: &mut fmt::Formatter<W>) -> fmt::Result {
+        match *self {
+            Outcome::Running => write!(f, "running"),
+            Outcome::Ended => write!(f, "ended"),
+            Outcome::Trap(trap, place) => {
+                let number = trap.number();
+                write!(f, "trap {number} at {place}")
+            }
+            Outcome::Waits(channel, place) => write!(f, "waits {channel} at {place}"),
+            Outcome::Broken => write!(f, "broken"),
+        }
+    }
+}
+
 /// What one instruction asks of whoever holds the port.
-#[derive(Clone, Copy)]
+#[derive(Clone, Copy, PartialEq, Eq, Debug)]
 pub enum Act {
     /// Nothing: it was executed.
     Went,
@@ -91,7 +106,7 @@ pub enum Act {
 }
 
 /// What one step comes to.
-#[derive(Clone, Copy)]
+#[derive(Clone, Copy, PartialEq, Eq, Debug)]
 pub enum Step {
     /// An instruction was executed.
     Went,
@@ -102,7 +117,7 @@ pub enum Step {
 }
 
 /// What a run answers.
-#[derive(Clone, Copy)]
+#[derive(Clone, Copy, PartialEq, Eq, Debug)]
 pub struct Ran {
     /// What it came to.
     pub outcome: Outcome,
@@ -110,4 +125,10 @@ pub struct Ran {
     pub executed: u16,
     /// The takes and puts completed.
     pub events: u16,
+}
+
+impl fmt::Display for Ran {
+    fn fmt<W: fmt::Write>(&self, f: &mut fmt::Formatter<W>) -> fmt::Result {
+        write!(f, "{} {} {}", self.outcome, self.executed, self.events)
+    }
 }

@@ -1,7 +1,7 @@
 use crate::operation::Operation;
 
 /// An operation with its operand, and the place of the source that it comes from.
-#[derive(Clone, Copy)]
+#[derive(Clone, Copy, PartialEq, Eq, Debug)]
 pub struct Instruction {
     /// What it does.
     pub operation: Operation,

@@ -4,7 +4,7 @@ ghost use Rattle.instructions.specs.Numbers.{number_of, operation_of, asks};
 use crate::answers::PortCall;
 
 /// What an instruction does. docs/CODE.md has each operation's effect.
-#[derive(Clone, Copy)]
+#[derive(Clone, Copy, PartialEq, Eq, Debug)]
 pub enum Operation {
     /// Ends the reading.
     End,
@@ -159,11 +159,25 @@ pub const TABLE: [Operation; 48] = [
 ];
 
 impl Operation {
-    /// The operation's number.
-    pub fn number(self) -> u8
-        ensures { result ≡ number_of self }
+    /// What the operation calls of the port, if anything.
+    pub fn port_call(self) -> Option<PortCall>
+        ensures { result ≡ asks self }
     {
         match self {
+            Operation::Take => Some(PortCall::Take),
+            Operation::Put => Some(PortCall::Set),
+            _ => None,
+        }
+    }
+}
+
+impl From<Operation> for u8 {
+    ghost from_gives = { λ operation number. number ≡ number_of operation };
+
+    fn from(operation: Operation) -> u8
+        ensures { result ≡ number_of operation }
+    {
+        match operation {
             Operation::End => 0,
             Operation::Integer => 1,
             Operation::Set => 2,
@@ -215,25 +229,17 @@ impl Operation {
             Operation::Other(number) => number,
         }
     }
+}
 
-    /// The operation of a number.
-    pub fn from_number(number: u8) -> Operation
+impl From<u8> for Operation {
+    ghost from_gives = { λ number operation. operation ≡ operation_of number };
+
+    fn from(number: u8) -> Operation
         ensures { result ≡ operation_of number }
     {
         match TABLE.get(number as usize) {
             Some(operation) => *operation,
             None => Operation::Other(number),
-        }
-    }
-
-    /// What the operation calls of the port.
-    pub fn port_call(self) -> PortCall
-        ensures { result ≡ asks self }
-    {
-        match self {
-            Operation::Take => PortCall::Take,
-            Operation::Put => PortCall::Set,
-            _ => PortCall::None,
         }
     }
 }

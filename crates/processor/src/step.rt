@@ -50,19 +50,19 @@ fn execute(m: &mut Memory, i: Instruction) -> Act
     ensures { shown (effect i (seen m.old)) (seen m.old) ≡ record { act = result; state = seen m.new } }
 {
     match i.operation.port_call() {
-        PortCall::None => {
+        None => {
             go_on(m);
             let result = obey(m, i.operation, i.operand);
             settle(m, result, i.place)
         }
-        PortCall::Take => match flow::take(m) {
+        Some(PortCall::Take) => match flow::take(m) {
             Ok(channel) => Act::Take(channel, i.place),
             Err(fault) => {
                 go_on(m);
                 fail(m, fault, i.place)
             }
         },
-        PortCall::Set => {
+        Some(PortCall::Set) => {
             go_on(m);
             match flow::put(m) {
                 Ok((channel, value)) => Act::Set(channel, value),
