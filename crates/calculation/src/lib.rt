@@ -1,5 +1,5 @@
-//! The operations that calculate: arithmetic on the newest words of a memory.
+//! The operations that calculate, each over the function that it leaves the value of.
 #![tactic(auto)]
 
-pub mod arithmetic;
+pub mod applied;
 pub mod words;

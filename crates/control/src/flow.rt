@@ -1,13 +1,13 @@
 // Jumps, the step of a FOR, activations, and what goes to the port.
-ghost use Rattle.std.specs.Prelude.{◌≡◌, cond, pos, int_le};
+ghost use Rattle.std.specs.Prelude.{◌≡◌, cond, pos, Ok, Err, int_le, unsigned_abs};
 ghost use Rattle.instructions.specs.Moves.{Done, ok};
 ghost use Rattle.instructions.specs.State.{at, became};
-ghost use Rattle.instructions.specs.Table.{jump_if, jump_unless, advance, check, call, return_value, take, put};
+ghost use Rattle.instructions.specs.Table.{jump_if, jump_unless, advance, call, return_value, take, put};
 ghost use Rattle.instructions.specs.Values.{goes_on, following, channel_numbers};
 ghost use Rattle.integer.specs.Ends.{within};
 ghost use Rattle.memory.specs.Seen.{seen};
 
-use calculation::words::{pull_two, same, truth};
+use calculation::words::pull_two;
 use instructions::answers::{Fault, Status, Trap};
 use memory::Memory;
 
@@ -27,23 +27,12 @@ pub fn jump(m: &mut Memory, operand: u16) -> Result<(), Fault>
     Ok(())
 }
 
-/// Goes to an instruction if the word is not 0.
-pub fn jump_if(m: &mut Memory, operand: u16) -> Result<(), Fault>
-    ensures { jump_if operand (seen m.old) ≡ record { result = result; state = seen m.new } }
+/// Goes to an instruction if the word as a truth value is the wanted one.
+pub fn jump_where(m: &mut Memory, wanted: bool, operand: u16) -> Result<(), Fault>
+    ensures { cond wanted (jump_if operand (seen m.old)) (jump_unless operand (seen m.old)) ≡ record { result = result; state = seen m.new } }
 {
     let x = m.pull()?;
-    if !same(x, 0) {
-        m.go(operand as usize);
-    }
-    Ok(())
-}
-
-/// Goes to an instruction if the word is 0.
-pub fn jump_unless(m: &mut Memory, operand: u16) -> Result<(), Fault>
-    ensures { jump_unless operand (seen m.old) ≡ record { result = result; state = seen m.new } }
-{
-    let x = m.pull()?;
-    if same(x, 0) {
+    if (x != 0) == wanted {
         m.go(operand as usize);
     }
     Ok(())
@@ -78,24 +67,23 @@ pub fn advance(m: &mut Memory) -> Result<(), Fault>
 {
     let step = m.pull()?;
     let (term, limit) = pull_two(m)?;
-    m.push(truth(goes_on(term, limit, step)))?;
+    m.push(i32::from(goes_on(term, limit, step)))?;
     m.push(following(term, limit, step))
 }
 
-// Whether a word is the number of a channel.
-fn is_channel(x: i32) -> bool
+/// Whether a word is the number of a channel.
+pub fn is_channel(x: i32) -> bool
     ensures { result ≡ within channel_numbers x }
 {
-    0 <= x && x <= 15
+    (0..16).contains(&x)
 }
 
-/// Traps unless the newest word is a channel.
-pub fn channel(m: &mut Memory) -> Result<(), Fault>
-    ensures { check Trap.Channel (within channel_numbers) (seen m.old) ≡ record { result = result; state = seen m.new } }
+// The channel that a word is the number of.
+fn channel_of(x: i32) -> Result<u8, Fault>
+    ensures { result ≡ cond (within channel_numbers x) (Ok (unsigned_abs x)) (Err (Fault.Trap Trap.Channel)) }
 {
-    let x = m.operand(0)?;
     if is_channel(x) {
-        Ok(())
+        Ok(x as u8)
     } else {
         Err(Fault::Trap(Trap::Channel))
     }
@@ -105,12 +93,7 @@ pub fn channel(m: &mut Memory) -> Result<(), Fault>
 pub fn take(m: &Memory) -> Result<u8, Fault>
     ensures { take (seen m.now) ≡ record { result = result; state = seen m.now } }
 {
-    let x = m.operand(0)?;
-    if is_channel(x) {
-        Ok(x as u8)
-    } else {
-        Err(Fault::Trap(Trap::Channel))
-    }
+    channel_of(m.operand(0)?)
 }
 
 /// The channel and the value of a Put.
@@ -118,13 +101,9 @@ pub fn put(m: &mut Memory) -> Result<(u8, i16), Fault>
     ensures { put (seen m.old) ≡ record { result = result; state = seen m.new } }
 {
     let (x, y) = pull_two(m)?;
-    if !is_channel(x) {
-        return Err(Fault::Trap(Trap::Channel));
-    }
-    if y < integer::LOWEST || y > integer::HIGHEST {
-        return Err(Fault::Trap(Trap::Range));
-    }
-    Ok((x as u8, y as i16))
+    let channel = channel_of(x)?;
+    let value = i16::try_from(y).map_err(|_| Fault::Trap(Trap::Range))?;
+    Ok((channel, value))
 }
 
 /// Opens an activation.

@@ -1,37 +1,19 @@
 // Constants, global words, variables and elements.
-ghost use Rattle.std.specs.Prelude.{◌≡◌, pos};
-ghost use Rattle.instructions.specs.Moves.{push};
+ghost use Rattle.std.specs.Prelude.{◌≡◌};
+ghost use Rattle.std.specs.Option.{ok_or};
 ghost use Rattle.instructions.specs.Table.{load_global, keep_global, load_local, keep_local, index, load_global_element, keep_global_element, load_local_element, keep_local_element, copy, swap};
-ghost use Rattle.instructions.specs.Values.{signed};
+ghost use Rattle.instructions.specs.Values.{natural};
 ghost use Rattle.memory.specs.Seen.{seen};
 
-use calculation::words::{natural, pull_two};
+use calculation::words::pull_two;
 use instructions::answers::{Fault, Trap};
 use memory::Memory;
 
-// An operand as an INTEGER: 65,536 less from 32,768 up.
-fn signed(operand: u16) -> i32
-    ensures { result ≡ signed operand }
+// The index that a number is, which is trap 3 where it is negative.
+fn index_of(z: i64) -> Result<usize, Fault>
+    ensures { result ≡ ok_or (natural z) (Fault.Trap Trap.Index) }
 {
-    if operand < 32_768 {
-        operand as i32
-    } else {
-        operand as i32 - 65_536
-    }
-}
-
-/// Leaves an INTEGER.
-pub fn integer_constant(m: &mut Memory, operand: u16) -> Result<(), Fault>
-    ensures { push (signed operand) (seen m.old) ≡ record { result = result; state = seen m.new } }
-{
-    m.push(signed(operand))
-}
-
-/// Leaves a set.
-pub fn set_constant(m: &mut Memory, operand: u16) -> Result<(), Fault>
-    ensures { push (pos operand) (seen m.old) ≡ record { result = result; state = seen m.new } }
-{
-    m.push(operand as i32)
+    usize::try_from(z).map_err(|_| Fault::Trap(Trap::Index))
 }
 
 /// Leaves a global word.
@@ -71,13 +53,11 @@ pub fn index(m: &mut Memory, operand: u16) -> Result<(), Fault>
     ensures { index operand (seen m.old) ≡ record { result = result; state = seen m.new } }
 {
     let (x, low) = pull_two(m)?;
-    match natural(x as i64 - low as i64) {
-        Some(k) => if k < operand as usize {
-            m.push(k as i32)
-        } else {
-            Err(Fault::Trap(Trap::Index))
-        },
-        None => Err(Fault::Trap(Trap::Index)),
+    let k = index_of(x as i64 - low as i64)?;
+    if k < operand as usize {
+        m.push(k as i32)
+    } else {
+        Err(Fault::Trap(Trap::Index))
     }
 }
 
@@ -86,13 +66,8 @@ pub fn load_global_element(m: &mut Memory, operand: u16) -> Result<(), Fault>
     ensures { load_global_element operand (seen m.old) ≡ record { result = result; state = seen m.new } }
 {
     let k = m.pull()?;
-    match natural(operand as i64 + k as i64) {
-        Some(i) => {
-            let x = m.global(Fault::Trap(Trap::Index), i)?;
-            m.push(x)
-        }
-        None => Err(Fault::Trap(Trap::Index)),
-    }
+    let i = index_of(operand as i64 + k as i64)?;
+    m.push(m.global(Fault::Trap(Trap::Index), i)?)
 }
 
 /// Stores an element of the global words.
@@ -100,10 +75,8 @@ pub fn store_global_element(m: &mut Memory, operand: u16) -> Result<(), Fault>
     ensures { keep_global_element operand (seen m.old) ≡ record { result = result; state = seen m.new } }
 {
     let (k, x) = pull_two(m)?;
-    match natural(operand as i64 + k as i64) {
-        Some(i) => m.store_global(Fault::Trap(Trap::Index), i, x),
-        None => Err(Fault::Trap(Trap::Index)),
-    }
+    let i = index_of(operand as i64 + k as i64)?;
+    m.store_global(Fault::Trap(Trap::Index), i, x)
 }
 
 /// Leaves an element of the variables.
@@ -111,13 +84,8 @@ pub fn load_local_element(m: &mut Memory, operand: u16) -> Result<(), Fault>
     ensures { load_local_element operand (seen m.old) ≡ record { result = result; state = seen m.new } }
 {
     let k = m.pull()?;
-    match natural(operand as i64 + k as i64) {
-        Some(i) => {
-            let x = m.variable(Fault::Trap(Trap::Index), i)?;
-            m.push(x)
-        }
-        None => Err(Fault::Trap(Trap::Index)),
-    }
+    let i = index_of(operand as i64 + k as i64)?;
+    m.push(m.variable(Fault::Trap(Trap::Index), i)?)
 }
 
 /// Stores an element of the variables.
@@ -125,10 +93,8 @@ pub fn store_local_element(m: &mut Memory, operand: u16) -> Result<(), Fault>
     ensures { keep_local_element operand (seen m.old) ≡ record { result = result; state = seen m.new } }
 {
     let (k, x) = pull_two(m)?;
-    match natural(operand as i64 + k as i64) {
-        Some(i) => m.store_variable(Fault::Trap(Trap::Index), i, x),
-        None => Err(Fault::Trap(Trap::Index)),
-    }
+    let i = index_of(operand as i64 + k as i64)?;
+    m.store_variable(Fault::Trap(Trap::Index), i, x)
 }
 
 /// Leaves a copy of a word further down.

@@ -2,9 +2,8 @@ ghost use Rattle.std.specs.Prelude.{◌≡◌};
 ghost use Rattle.instructions.specs.Table.{obeyed};
 ghost use Rattle.memory.specs.Seen.{seen};
 
-use calculation::arithmetic;
-use comparison::{relations, sets};
-use control::flow;
+use calculation::applied::{binary, check, combine, relate, test, unary};
+use control::flow::{self, is_channel};
 use instructions::answers::{Fault, Trap};
 use instructions::operation::Operation;
 use memory::Memory;
@@ -16,8 +15,8 @@ pub fn obey(m: &mut Memory, operation: Operation, operand: u16) -> Result<(), Fa
 {
     match operation {
         Operation::End => flow::end(m),
-        Operation::Integer => moves::integer_constant(m, operand),
-        Operation::Set => moves::set_constant(m, operand),
+        Operation::Integer => m.push(i32::from(operand.cast_signed())),
+        Operation::Set => m.push(i32::from(operand)),
         Operation::Global => moves::load_global(m, operand),
         Operation::StoreGlobal => moves::store_global(m, operand),
         Operation::Local => moves::load_local(m, operand),
@@ -29,33 +28,45 @@ pub fn obey(m: &mut Memory, operation: Operation, operand: u16) -> Result<(), Fa
         Operation::StoreLocalElement => moves::store_local_element(m, operand),
         Operation::Copy => moves::copy(m, operand),
         Operation::Swap => moves::swap(m),
-        Operation::Add => arithmetic::add(m),
-        Operation::Subtract => arithmetic::subtract(m),
-        Operation::Multiply => arithmetic::multiply(m),
-        Operation::Divide => arithmetic::divide(m),
-        Operation::Modulo => arithmetic::modulo(m),
-        Operation::Negate => arithmetic::negate(m),
-        Operation::Absolute => arithmetic::absolute(m),
-        Operation::Odd => arithmetic::test_odd(m),
-        Operation::Equal => relations::equal(m),
-        Operation::Unequal => relations::unequal(m),
-        Operation::Less => relations::less(m),
-        Operation::LessEqual => relations::less_equal(m),
-        Operation::Greater => relations::greater(m),
-        Operation::GreaterEqual => relations::greater_equal(m),
-        Operation::Not => relations::negation(m),
-        Operation::Union => sets::union(m),
-        Operation::Difference => sets::difference(m),
-        Operation::Intersection => sets::intersection(m),
-        Operation::Element => sets::element(m),
-        Operation::In => sets::contains(m),
-        Operation::Include => sets::include(m),
-        Operation::Exclude => sets::exclude(m),
+        Operation::Add => binary(m, Trap::Range, integer::add),
+        Operation::Subtract => binary(m, Trap::Range, integer::subtract),
+        Operation::Multiply => binary(m, Trap::Range, integer::multiply),
+        Operation::Divide => binary(
+            m,
+            Trap::Divisor,
+            |x, y| integer::divide(x, y).map(|pair| pair.0),
+        ),
+        Operation::Modulo => binary(
+            m,
+            Trap::Divisor,
+            |x, y| integer::divide(x, y).map(|pair| pair.1),
+        ),
+        Operation::Negate => unary(m, Trap::Range, integer::negate),
+        Operation::Absolute => unary(m, Trap::Range, integer::absolute),
+        Operation::Odd => test(m, |x| matches!(integer::divide(x, 2), Some((_, 1)))),
+        Operation::Equal => relate(m, |x, y| x == y),
+        Operation::Unequal => relate(m, |x, y| x != y),
+        Operation::Less => relate(m, |x, y| x < y),
+        Operation::LessEqual => relate(m, |x, y| x <= y),
+        Operation::Greater => relate(m, |x, y| x > y),
+        Operation::GreaterEqual => relate(m, |x, y| x >= y),
+        Operation::Not => test(m, |x| x == 0),
+        Operation::Union => combine(m, integer::union),
+        Operation::Difference => combine(m, integer::difference),
+        Operation::Intersection => combine(m, integer::intersection),
+        Operation::Element => check(m, Trap::Element, |x| (0..16).contains(&x)),
+        Operation::In => binary(
+            m,
+            Trap::Element,
+            |x, set| integer::contains(set, x).map(i32::from),
+        ),
+        Operation::Include => binary(m, Trap::Element, |x, set| integer::include(set, x)),
+        Operation::Exclude => binary(m, Trap::Element, |x, set| integer::exclude(set, x)),
         Operation::Jump => flow::jump(m, operand),
-        Operation::JumpIf => flow::jump_if(m, operand),
-        Operation::JumpUnless => flow::jump_unless(m, operand),
+        Operation::JumpIf => flow::jump_where(m, true, operand),
+        Operation::JumpUnless => flow::jump_where(m, false, operand),
         Operation::Advance => flow::advance(m),
-        Operation::Channel => flow::channel(m),
+        Operation::Channel => check(m, Trap::Channel, is_channel),
         Operation::Call => flow::call(m, operand),
         Operation::Enter => m.make_variables(operand),
         Operation::Return => m.close_activation(),
