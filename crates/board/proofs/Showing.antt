@@ -1,5 +1,5 @@
 -- What a board's step comes to, by what its memory asked.
-use Rattle.std.proofs.Common.{◌≡◌, ℕ, ◌≤◌, min, Bool, true, false, cond, eqb, ltb, List, [], ◌∷◌, length, get_or, take, ℤ, pos, Some, None, Ok, Err, Option, Result, sym, refl, ap, ◌∙◌, ap₂, inl, inr, arith}
+use Rattle.std.proofs.Common.{◌≡◌, ℕ, ◌≤◌, min, Bool, true, false, cond, eqb, ltb, List, [], ◌∷◌, length, get_or, take, ℤ, pos, Some, None, Ok, Err, Option, Result, ok_or, sym, refl, ap, ◌∙◌, ap₂, inl, inr, arith}
 use mathlib.Core.Path.{fun_ext}
 use Rattle.std.proofs.lemmas.List.{take_all}
 use Rattle.std.proofs.lemmas.Bool.{eqb-true, cases_lt}
@@ -8,6 +8,7 @@ use Rattle.ports.specs.Channels.{Meaning}
 use Rattle.ports.specs.Channels as channels
 use Rattle.instructions.specs.declared.answers.Act.TheVariants.{Take, Set}
 use Rattle.instructions.specs.declared.answers.Fault.{Fault}
+use Rattle.instructions.specs.declared.answers.Fault.TheVariants.{Broken as BrokenFault}
 use Rattle.instructions.specs.declared.answers.Outcome.TheVariants.{Waits, Broken as IsBroken}
 use Rattle.instructions.specs.declared.answers.Status.TheVariants.{Broken}
 use Rattle.instructions.specs.declared.answers.Step.TheVariants.{Event, Stopped as StepStopped}
@@ -67,21 +68,29 @@ module _ (v : View) (n : ℕ) where
   unset k x u m a d f = ap (λ r. told (set_or_not n x v.state r v)) (sym a) ∙ ap₂ (λ x y. record { step = StepStopped IsBroken; view = with_parts x y v }) (sym d) (sym f)
 
 -- a global word that is there, and one that is not
-module _ (v : View) (i : ℕ) (e : Fault) where
-  pub peek_there : (z y : ℤ) (c : State) → global e i v.state ≡ record { result = Ok z; state = c } → y ≡ shown_word z → ◌≡◌ {A = Result ℤ ℕ} (Ok y) (peeked v i)
+module _ (v : View) (i : ℕ) (o : Option ℤ) (g : (e : Fault) → global e i v.state ≡ record { result = ok_or o e; state = v.state }) where
+  there : o ≡ (cond (ltb i 1024) (Some (get_or v.state.globals i (pos 0))) None)
   unfolding global
-  peek_there z y c g h = by_range (ltb i 1024) g
+  there = by_range (ltb i 1024) o (g BrokenFault)
     where
-      by_range : (b : Bool) → cond b (ok (get_or v.state.globals i (pos 0)) v.state) (fail e v.state) ≡ record { result = Ok z; state = c } → ◌≡◌ {A = Result ℤ ℕ} (Ok y) (cond b (Ok (shown_word (get_or v.state.globals i (pos 0)))) (Err 53))
-      by_range true q = let f = ap (λ d. d.result) q in let s : get_or v.state.globals i (pos 0) ≡ z = cc in ap Ok (h ∙ ap shown_word (sym s))
-      by_range false q = let f = ap (λ d. d.result) q in absurd (let z : ◌≡◌ {A = ℕ} 0 1 = cc in omega arith)
+      by_range : (b : Bool) (o : Option ℤ) → cond b (ok (get_or v.state.globals i (pos 0)) v.state) (fail BrokenFault v.state) ≡ record { result = ok_or o BrokenFault; state = v.state } → o ≡ cond b (Some (get_or v.state.globals i (pos 0))) None
+      by_range true (Some z) q = let f = ap (λ d. d.result) q in cc
+      by_range true None q = let f = ap (λ d. d.result) q in absurd (let z : ◌≡◌ {A = ℕ} 0 1 = cc in omega arith)
+      by_range false (Some z) q = let f = ap (λ d. d.result) q in absurd (let z : ◌≡◌ {A = ℕ} 0 1 = cc in omega arith)
+      by_range false None q = refl
 
-  pub peek_absent : (f : Fault) (c : State) → global e i v.state ≡ record { result = Err f; state = c } → ◌≡◌ {A = Result ℤ ℕ} (Err 53) (peeked v i)
-  unfolding global
-  peek_absent k c g = by_range (ltb i 1024) g
+  pub peek_there : (z y : ℤ) → o ≡ Some z → y ≡ shown_word z → ◌≡◌ {A = Result ℤ ℕ} (Ok y) (peeked v i)
+  peek_there z y e h = by_range (ltb i 1024) (sym e ∙ there)
     where
-      by_range : (b : Bool) → cond b (ok (get_or v.state.globals i (pos 0)) v.state) (fail e v.state) ≡ record { result = Err k; state = c } → ◌≡◌ {A = Result ℤ ℕ} (Err 53) (cond b (Ok (shown_word (get_or v.state.globals i (pos 0)))) (Err 53))
-      by_range true q = let f = ap (λ d. d.result) q in absurd (let z : ◌≡◌ {A = ℕ} 0 1 = cc in omega arith)
+      by_range : (b : Bool) → Some z ≡ cond b (Some (get_or v.state.globals i (pos 0))) None → ◌≡◌ {A = Result ℤ ℕ} (Ok y) (cond b (Ok (shown_word (get_or v.state.globals i (pos 0)))) (Err 53))
+      by_range true q = let s : z ≡ get_or v.state.globals i (pos 0) = cc in ap Ok (h ∙ ap shown_word s)
+      by_range false q = absurd (let z : ◌≡◌ {A = ℕ} 0 1 = cc in omega arith)
+
+  pub peek_absent : o ≡ None → ◌≡◌ {A = Result ℤ ℕ} (Err 53) (peeked v i)
+  peek_absent e = by_range (ltb i 1024) (sym e ∙ there)
+    where
+      by_range : (b : Bool) → None ≡ cond b (Some (get_or v.state.globals i (pos 0))) None → ◌≡◌ {A = Result ℤ ℕ} (Err 53) (cond b (Ok (shown_word (get_or v.state.globals i (pos 0)))) (Err 53))
+      by_range true q = absurd (let z : ◌≡◌ {A = ℕ} 0 1 = cc in omega arith)
       by_range false q = refl
 
 -- the first instructions of a list, of which there may be fewer

@@ -10,12 +10,11 @@ use Rattle.instructions.specs.declared.answers.Step.{Step}
 use Rattle.instructions.specs.declared.answers.Step.TheVariants.{Went, Event, Stopped}
 use Rattle.instructions.specs.State.{global_words}
 use Rattle.instructions.specs.Steps.{View, Run, Move, gone, did, halted, with_parts, took_or_waits, set_or_not, spent}
-use Rattle.memory.specs.Seen.{seen}
 use Rattle.board.specs.declared.machine.Board.{Board}
 
 -- a board over a port of any make, with what the port means
 abbrev pub view : {X : Type 0} → (X → Meaning) → Board X → View
-view meaning b = record { code = b.code.now; state = seen b.memory; port = meaning b.port }
+view meaning b = record { code = b.code.now; state = b.memory; port = meaning b.port }
 
 -- a step as it is told, and the board then
 pub record Told : Type 0 where

@@ -1,15 +1,15 @@
 ghost use Rattle.std.specs.Prelude.{◌≡◌, ℕ, ◌+◌, ◌-◌, ◌^◌, ◌<◌, ◌≤◌, length};
 ghost use Rattle.ports.specs.Calls.{feed_answer, look_answer};
 ghost use Rattle.ports.specs.Refusals.{numbered as port-numbered};
-ghost use Rattle.instructions.specs.Steps.{loaded, run, spent, delivered};
-ghost use Rattle.memory.specs.Seen.{seen};
+ghost use Rattle.instructions.specs.Steps.{loaded, run, delivered};
 ghost use Rattle.board.specs.Refusals.{numbered};
 ghost use Rattle.board.specs.Seen.{view, answered, tally, ran, fed, peeked, shown_word};
 ghost use Rattle.processor.specs.Shows.{WithinList};
 
 use crate::machine::Board;
 use crate::refusal::Refusal;
-use instructions::answers::{Act, Fault, Outcome, Ran, Status, Step};
+use instructions::answers::{Act, Outcome, Ran, Status, Step};
+use instructions::area::Area;
 use instructions::instruction::{Instruction, LONGEST};
 use memory::Memory;
 use ports::port::Port;
@@ -24,22 +24,10 @@ fn shown_word(z: i32) -> i32
     if z >= 32_768 { z - 65_536 } else { z }
 }
 
-// What a status answers where nothing more is executed.
-fn outcome_of(status: Status) -> Outcome
-    ensures { result ≡ spent status }
-{
-    match status {
-        Status::Running => Outcome::Running,
-        Status::Ended => Outcome::Ended,
-        Status::Trapped(trap, place) => Outcome::Trap(trap, place),
-        Status::Broken => Outcome::Broken,
-    }
-}
-
 // Hands a sample to the Take that asked for it.
 fn deliver(m: &mut Memory, z: i16)
-    requires { (seen m.old).pc + 1 < 2 ^ 64 }
-    ensures { seen m.new ≡ delivered z (seen m.old) }
+    requires { m.old.pc + 1 < 2 ^ 64 }
+    ensures { m.new ≡ delivered z m.old }
 {
     m.go(m.pc() + 1);
     m.replace(z as i32);
@@ -79,29 +67,28 @@ impl<'a, P: Port> Board<'a, P> {
     pub fn peek(&self, w: u16) -> Result<i32, Refusal>
         ensures { numbered result ≡ peeked (view P.Port.meaning self.now) w }
     {
-        match self.memory.global(Fault::Broken, w as usize) {
-            Ok(z) => Ok(shown_word(z)),
-            Err(_) => Err(Refusal::NoWord),
-        }
+        let z = self
+            .memory
+            .word(Area::Globals, w as usize)
+            .ok_or(Refusal::NoWord)?;
+        Ok(shown_word(z))
     }
 
     // Asks the port what an act asks of it.
     fn meet(&mut self, act: Act) -> Step
-        requires { WithinList act (seen self.old.memory).pc (length self.old.code.now) }
+        requires { WithinList act self.old.memory.pc (length self.old.code.now) }
         ensures gone { answered act (view P.Port.meaning self.old) ≡ record { step = result; view = view P.Port.meaning self.new } }
         ensures lent { P.Port.lenders self.new.port ≡ P.Port.lenders self.old.port }
     {
         match act {
             Act::Went => Step::Went,
-            Act::Stopped => Step::Stopped(outcome_of(self.memory.status())),
+            Act::Stopped => Step::Stopped(Outcome::from(self.memory.status())),
             Act::Take(c, place) => match self.port.take(c) {
-                Ok(got) => match got {
-                    Some(z) => {
-                        deliver(&mut self.memory, z);
-                        Step::Event
-                    }
-                    None => Step::Stopped(Outcome::Waits(c, place)),
-                },
+                Ok(Some(z)) => {
+                    deliver(&mut self.memory, z);
+                    Step::Event
+                }
+                Ok(None) => Step::Stopped(Outcome::Waits(c, place)),
                 Err(_) => {
                     self.memory.set_status(Status::Broken);
                     Step::Stopped(Outcome::Broken)
@@ -141,7 +128,7 @@ impl<'a, P: Port> Board<'a, P> {
             }
         }
         Ran {
-            outcome: outcome_of(self.memory.status()),
+            outcome: Outcome::from(self.memory.status()),
             executed,
             events,
         }

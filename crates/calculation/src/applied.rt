@@ -1,8 +1,8 @@
 // Operations that leave what a function makes of the newest words.
-ghost use Rattle.std.specs.Prelude.{◌≡◌, ℤ, Bool, Option};
+ghost use Rattle.std.specs.Prelude.{ℤ, Bool, Option};
+ghost use Rattle.instructions.specs.Moves.{Does};
 ghost use Rattle.instructions.specs.Table.{unary, binary, test, relate, combine, check};
 ghost use Rattle.calculation.specs.Calls.{OfOne, OfTwo};
-ghost use Rattle.memory.specs.Seen.{seen};
 
 use crate::words::{answer, pull_two};
 use instructions::answers::{Fault, Trap};
@@ -11,7 +11,7 @@ use memory::Memory;
 /// Leaves f of the newest word, or traps where it is none.
 pub fn unary<F: FnOnce(i32) -> Option<i32>>(m: &mut Memory, trap: Trap, f: F) -> Result<(), Fault>
     requires { F.IsAlwaysCallable f }
-    ensures { (g : ℤ → Option ℤ) → OfOne (F.post f) g → unary trap g (seen m.old) ≡ record { result = result; state = seen m.new } }
+    ensures { (g : ℤ → Option ℤ) → OfOne (F.post f) g → Does (unary trap g) m.old result m.new }
 {
     let x = m.pull()?;
     answer(m, trap, f(x))
@@ -24,7 +24,7 @@ pub fn binary<F: FnOnce(i32, i32) -> Option<i32>>(
     f: F,
 ) -> Result<(), Fault>
     requires { F.IsAlwaysCallable f }
-    ensures { (g : ℤ → ℤ → Option ℤ) → OfTwo (F.post f) g → binary trap g (seen m.old) ≡ record { result = result; state = seen m.new } }
+    ensures { (g : ℤ → ℤ → Option ℤ) → OfTwo (F.post f) g → Does (binary trap g) m.old result m.new }
 {
     let (x, y) = pull_two(m)?;
     answer(m, trap, f(x, y))
@@ -33,7 +33,7 @@ pub fn binary<F: FnOnce(i32, i32) -> Option<i32>>(
 /// Leaves whether a test of the newest word holds.
 pub fn test<F: FnOnce(i32) -> bool>(m: &mut Memory, f: F) -> Result<(), Fault>
     requires { F.IsAlwaysCallable f }
-    ensures { (g : ℤ → Bool) → OfOne (F.post f) g → test g (seen m.old) ≡ record { result = result; state = seen m.new } }
+    ensures { (g : ℤ → Bool) → OfOne (F.post f) g → Does (test g) m.old result m.new }
 {
     let x = m.pull()?;
     m.push(i32::from(f(x)))
@@ -42,7 +42,7 @@ pub fn test<F: FnOnce(i32) -> bool>(m: &mut Memory, f: F) -> Result<(), Fault>
 /// Leaves whether a relation holds of the two newest words.
 pub fn relate<F: FnOnce(i32, i32) -> bool>(m: &mut Memory, f: F) -> Result<(), Fault>
     requires { F.IsAlwaysCallable f }
-    ensures { (g : ℤ → ℤ → Bool) → OfTwo (F.post f) g → relate g (seen m.old) ≡ record { result = result; state = seen m.new } }
+    ensures { (g : ℤ → ℤ → Bool) → OfTwo (F.post f) g → Does (relate g) m.old result m.new }
 {
     let (x, y) = pull_two(m)?;
     m.push(i32::from(f(x, y)))
@@ -51,7 +51,7 @@ pub fn relate<F: FnOnce(i32, i32) -> bool>(m: &mut Memory, f: F) -> Result<(), F
 /// Leaves f of two sets.
 pub fn combine<F: FnOnce(i32, i32) -> i32>(m: &mut Memory, f: F) -> Result<(), Fault>
     requires { F.IsAlwaysCallable f }
-    ensures { (g : ℤ → ℤ → ℤ) → OfTwo (F.post f) g → combine g (seen m.old) ≡ record { result = result; state = seen m.new } }
+    ensures { (g : ℤ → ℤ → ℤ) → OfTwo (F.post f) g → Does (combine g) m.old result m.new }
 {
     let (x, y) = pull_two(m)?;
     m.push(f(x, y))
@@ -60,7 +60,7 @@ pub fn combine<F: FnOnce(i32, i32) -> i32>(m: &mut Memory, f: F) -> Result<(), F
 /// Traps unless the newest word, which stays, passes the test.
 pub fn check<F: FnOnce(i32) -> bool>(m: &Memory, trap: Trap, f: F) -> Result<(), Fault>
     requires { F.IsAlwaysCallable f }
-    ensures { (g : ℤ → Bool) → OfOne (F.post f) g → check trap g (seen m.now) ≡ record { result = result; state = seen m.now } }
+    ensures { (g : ℤ → Bool) → OfOne (F.post f) g → Does (check trap g) m.now result m.now }
 {
     let x = m.operand(0)?;
     if f(x) { Ok(()) } else { Err(Fault::Trap(trap)) }

@@ -1,11 +1,10 @@
 // Jumps, the step of a FOR, activations, and what goes to the port.
 ghost use Rattle.std.specs.Prelude.{◌≡◌, cond, pos, Ok, Err, int_le, unsigned_abs};
-ghost use Rattle.instructions.specs.Moves.{Done, ok};
+ghost use Rattle.instructions.specs.Moves.{Does, ok};
 ghost use Rattle.instructions.specs.State.{at, became};
 ghost use Rattle.instructions.specs.Table.{jump_if, jump_unless, advance, call, return_value, take, put};
 ghost use Rattle.instructions.specs.Values.{goes_on, following, channel_numbers};
 ghost use Rattle.integer.specs.Ends.{within};
-ghost use Rattle.memory.specs.Seen.{seen};
 
 use calculation::words::pull_two;
 use instructions::answers::{Fault, Status, Trap};
@@ -13,7 +12,7 @@ use memory::Memory;
 
 /// Ends the reading.
 pub fn end(m: &mut Memory) -> Result<(), Fault>
-    ensures { ok tt (became Status.Ended (seen m.old)) ≡ record { result = result; state = seen m.new } }
+    ensures { Does (λ c. ok tt (became Status.Ended c)) m.old result m.new }
 {
     m.set_status(Status::Ended);
     Ok(())
@@ -21,7 +20,7 @@ pub fn end(m: &mut Memory) -> Result<(), Fault>
 
 /// Goes to an instruction.
 pub fn jump(m: &mut Memory, operand: u16) -> Result<(), Fault>
-    ensures { ok tt (at operand (seen m.old)) ≡ record { result = result; state = seen m.new } }
+    ensures { Does (λ c. ok tt (at operand c)) m.old result m.new }
 {
     m.go(operand as usize);
     Ok(())
@@ -29,7 +28,7 @@ pub fn jump(m: &mut Memory, operand: u16) -> Result<(), Fault>
 
 /// Goes to an instruction if the word as a truth value is the wanted one.
 pub fn jump_where(m: &mut Memory, wanted: bool, operand: u16) -> Result<(), Fault>
-    ensures { cond wanted (jump_if operand (seen m.old)) (jump_unless operand (seen m.old)) ≡ record { result = result; state = seen m.new } }
+    ensures { Does (cond wanted (jump_if operand) (jump_unless operand)) m.old result m.new }
 {
     let x = m.pull()?;
     if (x != 0) == wanted {
@@ -63,7 +62,7 @@ fn following(term: i32, limit: i32, step: i32) -> i32
 
 /// The next term of a FOR, and whether there is one.
 pub fn advance(m: &mut Memory) -> Result<(), Fault>
-    ensures { advance (seen m.old) ≡ record { result = result; state = seen m.new } }
+    ensures { Does advance m.old result m.new }
 {
     let step = m.pull()?;
     let (term, limit) = pull_two(m)?;
@@ -91,14 +90,14 @@ fn channel_of(x: i32) -> Result<u8, Fault>
 
 /// The channel that a Take names.
 pub fn take(m: &Memory) -> Result<u8, Fault>
-    ensures { take (seen m.now) ≡ record { result = result; state = seen m.now } }
+    ensures { Does take m.now result m.now }
 {
     channel_of(m.operand(0)?)
 }
 
 /// The channel and the value of a Put.
 pub fn put(m: &mut Memory) -> Result<(u8, i16), Fault>
-    ensures { put (seen m.old) ≡ record { result = result; state = seen m.new } }
+    ensures { Does put m.old result m.new }
 {
     let (x, y) = pull_two(m)?;
     let channel = channel_of(x)?;
@@ -108,14 +107,14 @@ pub fn put(m: &mut Memory) -> Result<(u8, i16), Fault>
 
 /// Opens an activation.
 pub fn call(m: &mut Memory, operand: u16) -> Result<(), Fault>
-    ensures { call operand (seen m.old) ≡ record { result = result; state = seen m.new } }
+    ensures { Does (call operand) m.old result m.new }
 {
     m.open_activation((operand / 4096) as usize, (operand % 4096) as usize)
 }
 
 /// Closes an activation, with a result.
 pub fn return_value(m: &mut Memory) -> Result<(), Fault>
-    ensures { return_value (seen m.old) ≡ record { result = result; state = seen m.new } }
+    ensures { Does return_value m.old result m.new }
 {
     let x = m.pull()?;
     m.close_activation()?;

@@ -1,14 +1,20 @@
 -- What operations are made of: words taken, left, read and stored, activations opened and closed.
-use Rattle.std.specs.Prelude.{ℕ, ◌+◌, cond, List, [], ◌∷◌, ◌++◌, reverse, length, take, drop, replicate, ℤ, pos, Ok, Err, Result, nat_le, nat_lt, slice_index_or, slice_set}
+use Rattle.std.specs.Prelude.{◌≡◌, ℕ, ◌+◌, cond, List, [], ◌∷◌, ◌++◌, reverse, length, take, drop, replicate, ℤ, pos, Ok, Err, Result, nat_le, nat_lt, slice_index_or, slice_set}
 use Rattle.instructions.specs.declared.answers.Fault.{Fault}
 use Rattle.instructions.specs.declared.answers.Fault.TheVariants.{Broken, Trap}
 use Rattle.instructions.specs.declared.answers.Trap.TheVariants.{Activations}
+use Rattle.instructions.specs.declared.area.Area.{Area}
+use Rattle.instructions.specs.declared.area.Area.TheVariants.{Globals, Variables}
 use Rattle.instructions.specs.State.{Caller, State, size, activation_words, global_words, most_open, storing, operating, varying, nesting, at}
 
 -- what an operation, or a part of one, gives, and the state then
 pub record Done (X : Type 0) : Type 0 where
   pub result : Result X Fault
   pub state : State
+
+-- it gave this result and left this state
+abbrev pub Does : {X : Type 0} → (State → Done X) → State → Result X Fault → State → Type 0
+Does f before r after = f before ≡ record { result = r; state = after }
 
 -- it gives x
 abbrev pub ok : {X : Type 0} → X → State → Done X
@@ -57,6 +63,16 @@ global e i c = cond (nat_lt i global_words) (ok (slice_index_or c.globals i (pos
 -- stores a global word, or fails as e where there is none
 unfoldable pub store_global : Fault → ℕ → ℤ → State → Done Unit
 store_global e i x c = cond (nat_lt i global_words) (ok tt (storing (slice_set c.globals i x) c)) (fail e c)
+
+-- reads a word of an area, or fails as e where there is none
+abbrev pub word : Area → Fault → ℕ → State → Done ℤ
+word Globals e i c = global e i c
+word Variables e i c = variable e i c
+
+-- stores a word of an area, or fails as e where there is none
+abbrev pub store_word : Area → Fault → ℕ → ℤ → State → Done Unit
+store_word Globals e i x c = store_global e i x c
+store_word Variables e i x c = store_variable e i x c
 
 -- opens an activation whose first variables are the n newest operands, the newest last; it begins at t
 unfoldable pub open_activation : ℕ → ℕ → State → Done Unit

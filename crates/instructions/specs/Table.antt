@@ -7,9 +7,11 @@ use Rattle.instructions.specs.declared.answers.Fault.TheVariants.{Broken, Trap a
 use Rattle.instructions.specs.declared.answers.Status.TheVariants.{Ended}
 use Rattle.instructions.specs.declared.answers.Trap.{Trap}
 use Rattle.instructions.specs.declared.answers.Trap.TheVariants.{Range, Divisor, Index as IndexTrap, Channel as ChannelTrap, Element as ElementTrap, NoResult as NoResultTrap}
+use Rattle.instructions.specs.declared.area.Area.{Area}
+use Rattle.instructions.specs.declared.area.Area.TheVariants.{Globals, Variables}
 use Rattle.instructions.specs.declared.operation.Operation.{Operation}
 use Rattle.instructions.specs.declared.operation.Operation.TheVariants.{End, Integer, Set, Global, StoreGlobal, Local, StoreLocal, Index, GlobalElement, StoreGlobalElement, LocalElement, StoreLocalElement, Copy, Swap, Add, Subtract, Multiply, Divide, Modulo, Negate, Absolute, Odd, Equal, Unequal, Less, LessEqual, Greater, GreaterEqual, Not, Union, Difference, Intersection, Element, In, Include, Exclude, Jump, JumpIf, JumpUnless, Advance, Channel, Take, Put, Call, Enter, Return, ReturnValue, NoResult, Other}
-use Rattle.instructions.specs.Moves.{Done, ok, fail, then, pull, push, operand, variable, store_variable, global, store_global, open_activation, make_variables, close_activation}
+use Rattle.instructions.specs.Moves.{Done, ok, fail, then, pull, push, operand, word, store_word, open_activation, make_variables, close_activation}
 use Rattle.instructions.specs.State.{State, became, at}
 use Rattle.instructions.specs.Values.{truth, signed, same, natural, quotient, remainder, odd, goes_on, following, channel_numbers}
 
@@ -46,21 +48,13 @@ combine f c = then (pull_two c) (λ p c. push (f p.0 p.1) c)
 abbrev pub check : Trap → (ℤ → Bool) → State → Done Unit
 check t f c = then (operand 0 c) (λ x c. cond (f x) (ok tt c) (fail (Trapping t) c))
 
--- leaves a global word
-abbrev pub load_global : ℕ → State → Done Unit
-load_global w c = then (global Broken w c) (λ x c. push x c)
+-- leaves a word
+abbrev pub load : Area → ℕ → State → Done Unit
+load a n c = then (word a Broken n c) (λ x c. push x c)
 
--- stores the newest word as a global word
-abbrev pub keep_global : ℕ → State → Done Unit
-keep_global w c = then (pull c) (λ x c. store_global Broken w x c)
-
--- leaves a variable
-abbrev pub load_local : ℕ → State → Done Unit
-load_local i c = then (variable Broken i c) (λ x c. push x c)
-
--- stores the newest word as a variable
-abbrev pub keep_local : ℕ → State → Done Unit
-keep_local i c = then (pull c) (λ x c. store_variable Broken i x c)
+-- stores the newest word
+abbrev pub keep : Area → ℕ → State → Done Unit
+keep a n c = then (pull c) (λ x c. store_word a Broken n x c)
 
 -- goes on with a number that is not negative; any other is trap 3
 abbrev pub indexed : {X : Type 0} → Option ℕ → State → (ℕ → State → Done X) → Done X
@@ -71,21 +65,13 @@ indexed None c f = fail (Trapping IndexTrap) c
 abbrev pub index : ℕ → State → Done Unit
 index n c = then (pull_two c) (λ p c. indexed (natural (p.0 -ℤ p.1)) c (λ k c. cond (nat_lt k n) (push (pos k) c) (fail (Trapping IndexTrap) c)))
 
--- takes k and leaves the global word w + k
-abbrev pub load_global_element : ℕ → State → Done Unit
-load_global_element w c = then (pull c) (λ k c. indexed (natural (pos w +ℤ k)) c (λ i c. then (global (Trapping IndexTrap) i c) (λ x c. push x c)))
+-- takes k and leaves the word n + k
+abbrev pub load_element : Area → ℕ → State → Done Unit
+load_element a n c = then (pull c) (λ k c. indexed (natural (pos n +ℤ k)) c (λ i c. then (word a (Trapping IndexTrap) i c) (λ x c. push x c)))
 
--- takes k and a value, and stores the value as the global word w + k
-abbrev pub keep_global_element : ℕ → State → Done Unit
-keep_global_element w c = then (pull_two c) (λ p c. indexed (natural (pos w +ℤ p.0)) c (λ i c. store_global (Trapping IndexTrap) i p.1 c))
-
--- takes k and leaves the variable n + k
-abbrev pub load_local_element : ℕ → State → Done Unit
-load_local_element n c = then (pull c) (λ k c. indexed (natural (pos n +ℤ k)) c (λ i c. then (variable (Trapping IndexTrap) i c) (λ x c. push x c)))
-
--- takes k and a value, and stores the value as the variable n + k
-abbrev pub keep_local_element : ℕ → State → Done Unit
-keep_local_element n c = then (pull_two c) (λ p c. indexed (natural (pos n +ℤ p.0)) c (λ i c. store_variable (Trapping IndexTrap) i p.1 c))
+-- takes k and a value, and stores the value as the word n + k
+abbrev pub keep_element : Area → ℕ → State → Done Unit
+keep_element a n c = then (pull_two c) (λ p c. indexed (natural (pos n +ℤ p.0)) c (λ i c. store_word a (Trapping IndexTrap) i p.1 c))
 
 -- leaves a copy of the word that is n below the newest
 abbrev pub copy : ℕ → State → Done Unit
@@ -132,15 +118,15 @@ abbrev pub obeyed : Operation → ℕ → State → Done Unit
 obeyed End n c = ok tt (became Ended c)
 obeyed Integer n c = push (signed n) c
 obeyed Set n c = push (pos n) c
-obeyed Global n c = load_global n c
-obeyed StoreGlobal n c = keep_global n c
-obeyed Local n c = load_local n c
-obeyed StoreLocal n c = keep_local n c
+obeyed Global n c = load Globals n c
+obeyed StoreGlobal n c = keep Globals n c
+obeyed Local n c = load Variables n c
+obeyed StoreLocal n c = keep Variables n c
 obeyed Index n c = index n c
-obeyed GlobalElement n c = load_global_element n c
-obeyed StoreGlobalElement n c = keep_global_element n c
-obeyed LocalElement n c = load_local_element n c
-obeyed StoreLocalElement n c = keep_local_element n c
+obeyed GlobalElement n c = load_element Globals n c
+obeyed StoreGlobalElement n c = keep_element Globals n c
+obeyed LocalElement n c = load_element Variables n c
+obeyed StoreLocalElement n c = keep_element Variables n c
 obeyed Copy n c = copy n c
 obeyed Swap n c = swap c
 obeyed Add n c = binary Range (λ x y. kept integer (x +ℤ y)) c

@@ -1,4 +1,5 @@
 ghost use Rattle.std.specs.Prelude.{◌≡◌};
+ghost use Rattle.instructions.specs.Steps.{spent};
 ghost use Rattle.instructions.specs.Traps.{trap_number};
 
 use std::fmt;
@@ -75,6 +76,22 @@ pub enum Outcome {
     Waits(u8, u16),
     /// An instruction without an effect, or none.
     Broken,
+}
+
+impl From<Status> for Outcome {
+    ghost from_gives = { λ status outcome. outcome ≡ spent status };
+
+    /// What a status answers where nothing more is executed.
+    fn from(status: Status) -> Outcome
+        ensures { result ≡ spent status }
+    {
+        match status {
+            Status::Running => Outcome::Running,
+            Status::Ended => Outcome::Ended,
+            Status::Trapped(trap, place) => Outcome::Trap(trap, place),
+            Status::Broken => Outcome::Broken,
+        }
+    }
 }
 
 impl fmt::Display for Outcome {

@@ -2,6 +2,7 @@
 #![tactic(auto)]
 
 pub mod answers;
+pub mod area;
 pub mod instruction;
 pub mod laws;
 pub mod operation;

@@ -1,4 +1,3 @@
 pub mod Rows
 pub mod Raw
-pub mod Growing
 pub mod Piling

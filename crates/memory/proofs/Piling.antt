@@ -1,9 +1,9 @@
 -- Activation records pushed and popped.
-use Rattle.std.proofs.Common.{◌≡◌, ℕ, zero, suc, ◌+◌, ◌-◌, ◌*◌, ◌<◌, ◌≤◌, min, List, length, get_or, take, set, sym, ap, ◌∙◌, subst, add-one, arith, length-set}
+use Rattle.std.proofs.Common.{◌≡◌, ℕ, zero, suc, ◌+◌, ◌-◌, ◌*◌, ◌<◌, ◌≤◌, min, true, false, List, length, get_or, take, set, Ok, Err, Result, is_err, MatchResult, sym, ap, ◌∙◌, subst, add-one, arith, length-set}
 use Rattle.std.proofs.lemmas.List.{get_or-set_same, get_or_default, length-take-le}
 use Rattle.memory.specs.declared.activation.Activation.{Activation}
-use Rattle.memory.specs.Nested.{blank}
-use Rattle.memory.proofs.Rows.{Nested, nested_later}
+use Rattle.memory.specs.Nested.{blank, Nested}
+use Rattle.memory.proofs.Rows.{nested_later}
 
 -- the record that was popped is the last of the first d
 pub popped_is : (cs cs₁ : List Activation) (d n m : ℕ) (a : Activation) → d ≤ length cs → n ≡ min d (length cs) → n ≡ m + 1 → a ≡ get_or cs₁ m a → cs₁ ≡ cs → (0 < d) × (a ≡ get_or cs (d - 1) blank)
@@ -42,3 +42,12 @@ room_at cs cs₁ cs₂ d n m a l e h f g low =
     let k : length cs₂ ≡ length cs = ap length g ∙ length-set cs₁ n a ∙ ap length h in
     let q : n ≡ d = omega arith in
     (omega arith, g ∙ ap (λ xs. set xs n a) h ∙ ap (λ i. set cs i a) q)
+
+-- what is known of a push that was refused, and of one that was not
+pub refused : {E : Type 0} (r : Result Unit E) (P Q : Type 0) → MatchResult r (λ _. P) (λ _. Q) → is_err r ≡ true → Q
+refused (Ok u) P Q h e = absurd (let z : ◌≡◌ {A = ℕ} 0 1 = cc in omega arith)
+refused (Err x) P Q h e = h
+
+pub pushed : {E : Type 0} (r : Result Unit E) (P Q : Type 0) → MatchResult r (λ _. P) (λ _. Q) → is_err r ≡ false → P
+pushed (Ok u) P Q h e = h
+pushed (Err x) P Q h e = absurd (let z : ◌≡◌ {A = ℕ} 0 1 = cc in omega arith)

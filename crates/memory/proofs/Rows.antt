@@ -1,34 +1,9 @@
 -- Words by their indexes: rows that are read from their end, and writes outside of them.
-use Rattle.std.proofs.Common.{◌≡◌, ℕ, zero, suc, ◌+◌, ◌-◌, ◌*◌, ◌<◌, ◌≤◌, Bool, true, ◌&&◌, ◌≢◌, ◌⊎◌, List, [], ◌∷◌, ◌++◌, reverse, length, get_or, take, drop, set, ℤ, pos, sym, refl, ap, ◌∙◌, ap₂, inl, inr, add-one, arith, length-drop}
-use Rattle.std.proofs.lemmas.List.{get_or-set_other, get_or-drop, take_more, take-set-le, drop-set-lt, drop-set-add, reverse-append}
+use Rattle.std.proofs.Common.{◌≡◌, ℕ, zero, suc, ◌+◌, ◌-◌, ◌<◌, ◌≤◌, ◌≢◌, ◌⊎◌, List, [], ◌∷◌, ◌++◌, reverse, length, get_or, take, drop, set, ℤ, pos, sym, refl, ap, ◌∙◌, ap₂, inl, inr, add-one, arith, length-drop}
+use Rattle.std.proofs.lemmas.List.{get_or-set_other, get_or-drop, get_or-take, take_more, take-take, drop-take, reverse-append}
 use Rattle.memory.specs.declared.activation.Activation.{Activation}
-use Rattle.std.proofs.lemmas.Bool.{and_parts, leb-true, le-leb}
-use Rattle.memory.specs.Nested.{blank, nested}
+use Rattle.memory.specs.Nested.{blank, Nested}
 use Rattle.memory.specs.Seen.{down, words_of, caller_of, callers_of}
-
--- the same as a fact: the first n activations have their words in order, below an index
-abbrev pub Nested : List Activation → ℕ → ℕ → Type 0
-Nested cs zero above = Unit {0}
-Nested cs (suc n) above =
-    ((get_or cs n blank).base + ((get_or cs n blank).variables + (get_or cs n blank).operands) ≤ above)
-    × ((get_or cs n blank).variables + (get_or cs n blank).operands ≤ 256)
-    × ((get_or cs n blank).base ≤ n * 256)
-    × Nested cs n (get_or cs n blank).base
-
-pub nested_fact : (cs : List Activation) (n above : ℕ) → nested cs n above ≡ true → Nested cs n above
-nested_fact cs zero above h = tt
-nested_fact cs (suc n) above h =
-    let a = and_parts _ _ h in
-    let b = and_parts _ _ a.1 in
-    let d = and_parts _ _ b.1 in
-    (leb-true _ _ a.0, leb-true _ _ b.0, leb-true _ _ d.0, nested_fact cs n (get_or cs n blank).base d.1)
-
-both : (a b : Bool) → a ≡ true → b ≡ true → (a && b) ≡ true
-both a b p q = rw (p, q) refl
-
-pub nested_test : (cs : List Activation) (n above : ℕ) → Nested cs n above → nested cs n above ≡ true
-nested_test cs zero above h = refl
-nested_test cs (suc n) above h = both _ _ (le-leb _ _ h.0) (both _ _ (le-leb _ _ h.1) (both _ _ (le-leb _ _ h.2) (nested_test cs n (get_or cs n blank).base h.3)))
 
 pub length_down : (ws : List ℤ) (from n : ℕ) → length (down ws from n) ≡ n
 length_down ws from zero = refl
@@ -42,27 +17,30 @@ down_set ws from (suc n) j x h =
     let rest : (j < from) ⊎ (from + n ≤ j) = elim h [ inl a ↦ inl a | inr b ↦ inr (omega arith) ] in
     ap₂ ◌∷◌ (get_or-set_other ws j (from + n) x (pos 0) ne) (down_set ws from n j x rest)
 
--- a write outside the n words from base on leaves them
-pub up_set : (ws : List ℤ) (base n j : ℕ) (x : ℤ) → (j < base) ⊎ (base + n ≤ j) → take n (drop base (set ws j x)) ≡ take n (drop base ws)
-up_set ws base n j x (inl h) = ap (take n) (drop-set-lt base ws j x h)
-up_set ws base n j x (inr h) =
-    let e : j ≡ base + (j - base) = omega arith in
-    ap (λ k. take n (drop base (set ws k x))) e ∙ ap (take n) (drop-set-add base ws (j - base) x) ∙ take-set-le n (drop base ws) (j - base) x (omega arith)
+down_take : (ws : List ℤ) (k from n : ℕ) → from + n ≤ k → down (take k ws) from n ≡ down ws from n
+down_take ws k from zero h = refl
+down_take ws k from (suc n) h = ap₂ ◌∷◌ (get_or-take k ws (from + n) (pos 0) (omega arith)) (down_take ws k from n (omega arith))
 
-pub words_set : (ws : List ℤ) (base v o j : ℕ) (x : ℤ) → (j < base) ⊎ (base + (v + o) ≤ j) → words_of (set ws j x) base v o ≡ words_of ws base v o
-words_set ws base v o j x h =
-    let a : (j < base) ⊎ (base + v ≤ j) = elim h [ inl l ↦ inl l | inr r ↦ inr (omega arith) ] in
-    let b : (j < base + v) ⊎ (base + v + o ≤ j) = elim h [ inl l ↦ inl (omega arith) | inr r ↦ inr (omega arith) ] in
-    ap₂ (λ p q. record { variables = p; operands = q }) (up_set ws base v j x a) (down_set ws (base + v) o j x b)
+-- the words of an activation that ends at or below k are among the first k
+words_take : (ws : List ℤ) (k base v o : ℕ) → base + (v + o) ≤ k → words_of (take k ws) base v o ≡ words_of ws base v o
+words_take ws k base v o h =
+    let e : k ≡ base + (k - base) = omega arith in
+    let vs : take v (drop base (take k ws)) ≡ take v (drop base ws) =
+    ap (λ j. take v (drop base (take j ws))) e ∙ ap (take v) (drop-take base (k - base) ws) ∙ take-take v (k - base) (drop base ws) (omega arith) in
+    ap₂ (λ p q. record { variables = p; operands = q }) vs (down_take ws k (base + v) o (omega arith))
 
--- a write at or above the waiting activations' words leaves them
-pub callers_set : (ws : List ℤ) (cs : List Activation) (n above j : ℕ) (x : ℤ) → Nested cs n above → above ≤ j → callers_of (set ws j x) cs n ≡ callers_of ws cs n
-callers_set ws cs zero above j x h l = refl
-callers_set ws cs (suc n) above j x h l =
+-- a write at k or above leaves such an activation
+pub words_same : (ws us : List ℤ) (k base v o : ℕ) → take k ws ≡ take k us → base + (v + o) ≤ k → words_of ws base v o ≡ words_of us base v o
+words_same ws us k base v o e h = sym (words_take ws k base v o h) ∙ ap (λ xs. words_of xs base v o) e ∙ words_take us k base v o h
+
+-- and so it leaves waiting activations that all end at or below k
+pub callers_same : (ws us : List ℤ) (cs : List Activation) (n above k : ℕ) → take k ws ≡ take k us → above ≤ k → Nested cs n above → callers_of ws cs n ≡ callers_of us cs n
+callers_same ws us cs zero above k e l h = refl
+callers_same ws us cs (suc n) above k e l h =
     let a = get_or cs n blank in
-    let e : a.base + (a.variables + a.operands) ≤ j = omega (arith, h.0) in
-    let b : a.base ≤ j = omega arith in
-    ap₂ ◌∷◌ (ap (λ w. record { resume = a.resume; words = w }) (words_set ws a.base a.variables a.operands j x (inr e))) (callers_set ws cs n a.base j x h.3 b)
+    let q : a.base + (a.variables + a.operands) ≤ k = omega (arith, h.0) in
+    let b : a.base ≤ k = omega arith in
+    ap₂ ◌∷◌ (ap (λ w. record { resume = a.resume; words = w }) (words_same ws us k a.base a.variables a.operands e q)) (callers_same ws us cs n a.base k e b h.3)
 
 -- the waiting activations below n do not depend on a record at n or above
 pub callers_later : (ws : List ℤ) (cs : List Activation) (n k : ℕ) (a : Activation) → n ≤ k → callers_of ws (set cs k a) n ≡ callers_of ws cs n

@@ -1,9 +1,9 @@
 -- What the table sees of a memory.
-use Rattle.std.specs.Prelude.{ℕ, zero, suc, ◌+◌, List, [], ◌∷◌, ◌++◌, reverse, take, drop, ℤ, pos, slice_index_or}
-use Rattle.instructions.specs.State.{Words, Caller, State, holding}
+use Rattle.std.specs.Prelude.{ℕ, zero, suc, ◌+◌, ◌*◌, ◌≤◌, List, [], ◌∷◌, take, drop, ℤ, pos, slice_index_or}
+use Rattle.instructions.specs.State.{Words, Caller, State}
 use Rattle.memory.specs.declared.activation.Activation.{Activation}
-use Rattle.memory.specs.declared.store.Memory.{Memory}
-use Rattle.memory.specs.Nested.{blank}
+use Rattle.memory.specs.declared.store.Memory.TheInside.{Inside}
+use Rattle.memory.specs.Nested.{blank, Nested}
 
 -- the n words from an index on, the last first
 abbrev pub down : List ℤ → ℕ → ℕ → List ℤ
@@ -24,9 +24,12 @@ callers_of ws cs zero = []
 callers_of ws cs (suc n) = caller_of ws (slice_index_or cs n blank) ∷ callers_of ws cs n
 
 -- the state that a memory stands for
-unfoldable pub seen : Memory → State
+abbrev pub seen : Inside → State
 seen m = record { globals = m.globals; words = words_of m.words m.base m.variables m.operands; callers = callers_of m.words m.callers m.depth; pc = m.pc; status = m.status }
 
--- all words of the newest activation are variables
-abbrev pub promoted : State → State
-promoted c = holding (record { variables = c.words.variables ++ reverse c.words.operands; operands = [] }) c
+-- what holds of every memory: its activations are within their bounds, and their words in order
+pub record Sound (m : Inside) : Type 0 where
+  pub deep : m.depth ≤ 32
+  pub low : m.base ≤ m.depth * 256
+  pub held : m.variables + m.operands ≤ 256
+  pub ordered : Nested m.callers m.depth m.base

@@ -1,32 +1,30 @@
 // What is read of a memory.
-ghost use Rattle.std.specs.Prelude.{◌≡◌};
-ghost use Rattle.instructions.specs.Moves.{Done, operand, variable, global};
-ghost use Rattle.memory.specs.Seen.{seen};
+ghost use Rattle.std.specs.Prelude.{◌≡◌, ok_or};
+ghost use Rattle.instructions.specs.declared.answers.Fault.{Fault};
+ghost use Rattle.instructions.specs.Moves.{Does, operand, word};
 
 use crate::store::Memory;
 use instructions::answers::{Fault, Status};
-
-/// There are 1,024 global words.
-pub const GLOBALS: usize = 1024;
+use instructions::area::Area;
 
 impl Memory {
     /// Whether the board goes on.
     pub fn status(&self) -> Status
-        ensures { result ≡ (seen self.now).status }
+        ensures { result ≡ self.now.status }
     {
         self.status
     }
 
     /// The index of the next instruction.
     pub fn pc(&self) -> usize
-        ensures { result ≡ (seen self.now).pc }
+        ensures { result ≡ self.now.pc }
     {
         self.pc
     }
 
     /// The operand that is `n` below the newest.
     pub fn operand(&self, n: usize) -> Result<i32, Fault>
-        ensures { operand n (seen self.now) ≡ record { result = result; state = seen self.now } }
+        ensures { Does (operand n) self.now result self.now }
     {
         if n >= self.operands {
             return Err(Fault::Broken);
@@ -34,23 +32,20 @@ impl Memory {
         Ok(self.words[self.base + self.variables + (self.operands - 1 - n)])
     }
 
-    /// A variable of the newest activation, or `fault` where there is none.
-    pub fn variable(&self, fault: Fault, i: usize) -> Result<i32, Fault>
-        ensures { variable fault i (seen self.now) ≡ record { result = result; state = seen self.now } }
+    // The variables of the newest activation.
+    fn variables(&self) -> &[i32]
+        ensures { result.now ≡ self.now.words.variables }
     {
-        if i >= self.variables {
-            return Err(fault);
-        }
-        Ok(self.words[self.base + i])
+        &self.words[self.base..self.base + self.variables]
     }
 
-    /// A global word, or `fault` where there is none.
-    pub fn global(&self, fault: Fault, i: usize) -> Result<i32, Fault>
-        ensures { global fault i (seen self.now) ≡ record { result = result; state = seen self.now } }
+    /// A word of an area, or none where the area does not have it.
+    pub fn word(&self, area: Area, i: usize) -> Option<i32>
+        ensures { (e : Fault) → Does (word area e i) self.now (ok_or result e) self.now }
     {
-        if i >= GLOBALS {
-            return Err(fault);
+        match area {
+            Area::Globals => self.globals.get(i).copied(),
+            Area::Variables => self.variables().get(i).copied(),
         }
-        Ok(self.globals[i])
     }
 }

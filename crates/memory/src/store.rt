@@ -1,8 +1,6 @@
-ghost use Rattle.std.specs.Prelude.{◌≡◌, ℕ, ◌+◌, ◌*◌, ◌≤◌, true};
-ghost use Rattle.memory.specs.Nested.{nested};
-
 use crate::activation::Activation;
 use instructions::answers::Status;
+use std::marker::Model;
 
 /// Global words, the words of all open activations one after the other, the waiting activations, the next index and the status.
 #[derive(Drop)]
@@ -16,8 +14,16 @@ pub struct Memory {
     pub(crate) operands: usize,
     pub(crate) pc: usize,
     pub(crate) status: Status,
-    ghost deep: { depth ≤ 32 },
-    ghost low: { base ≤ depth * 256 },
-    ghost held: { variables + operands ≤ 256 },
-    ghost ordered: { nested callers depth base ≡ true },
+}
+
+impl Model for Memory {
+    ghost use Rattle.instructions.specs.State.{State};
+
+    ghost Value = { State };
+
+    ghost use Rattle.memory.specs.Seen.{seen, Sound};
+
+    ghost view = { seen };
+
+    ghost invariant = { Sound };
 }

@@ -1,12 +1,12 @@
-ghost use Rattle.std.specs.Prelude.{◌≡◌, ℕ, ◌+◌, ◌%◌, ◌^◌, ◌<◌, ◌≤◌};
-ghost use Rattle.instructions.specs.Moves.{Done, pull, push, store_variable, store_global, open_activation, close_activation, make_variables, replace};
-ghost use Rattle.instructions.specs.State.{State, start, became, at};
-ghost use Rattle.memory.specs.Seen.{seen, promoted};
+ghost use Rattle.std.specs.Prelude.{◌≡◌, ok_or};
+ghost use Rattle.instructions.specs.declared.answers.Fault.{Fault};
+ghost use Rattle.instructions.specs.Moves.{Does, pull, push, store_word, open_activation, close_activation, make_variables, replace};
+ghost use Rattle.instructions.specs.State.{start, became, at};
 
 use crate::activation::Activation;
-use crate::reads::GLOBALS;
 use crate::store::Memory;
 use instructions::answers::{Fault, Status, Trap};
+use instructions::area::Area;
 use stack::Stack;
 
 /// An activation has room for 256 words.
@@ -15,7 +15,7 @@ const ROOM: usize = 256;
 impl Memory {
     /// A memory in which nothing has been stored.
     pub fn new() -> Memory
-        ensures { seen result ≡ start }
+        ensures { result ≡ start }
     {
         Memory {
             globals: [0; 1024],
@@ -37,21 +37,21 @@ impl Memory {
 
     /// Changes the status.
     pub fn set_status(&mut self, status: Status)
-        ensures { seen self.new ≡ became status (seen self.old) }
+        ensures { self.new ≡ became status self.old }
     {
         self.status = status;
     }
 
     /// Goes to an instruction.
     pub fn go(&mut self, index: usize)
-        ensures { seen self.new ≡ at index (seen self.old) }
+        ensures { self.new ≡ at index self.old }
     {
         self.pc = index;
     }
 
     /// Takes the newest operand.
     pub fn pull(&mut self) -> Result<i32, Fault>
-        ensures { pull (seen self.old) ≡ record { result = result; state = seen self.new } }
+        ensures { Does pull self.old result self.new }
     {
         if self.operands == 0 {
             return Err(Fault::Broken);
@@ -62,7 +62,7 @@ impl Memory {
 
     /// Leaves an operand.
     pub fn push(&mut self, x: i32) -> Result<(), Fault>
-        ensures { push x (seen self.old) ≡ record { result = result; state = seen self.new } }
+        ensures { Does (push x) self.old result self.new }
     {
         if self.variables + self.operands >= ROOM {
             return Err(Fault::Broken);
@@ -74,38 +74,28 @@ impl Memory {
 
     /// Puts `z` in the place of the newest operand.
     pub fn replace(&mut self, z: i32)
-        ensures { seen self.new ≡ replace z (seen self.old) }
+        ensures { self.new ≡ replace z self.old }
     {
         if self.operands > 0 {
             self.words[self.base + self.variables + (self.operands - 1)] = z;
         }
     }
 
-    /// Stores a variable of the newest activation, or answers `fault` where there is none.
-    pub fn store_variable(&mut self, fault: Fault, i: usize, x: i32) -> Result<(), Fault>
-        ensures { store_variable fault i x (seen self.old) ≡ record { result = result; state = seen self.new } }
+    /// Stores a word of an area, or answers none where the area does not have it.
+    pub fn store(&mut self, area: Area, i: usize, x: i32) -> Option<()>
+        ensures { (e : Fault) → Does (store_word area e i x) self.old (ok_or result e) self.new }
     {
-        if i >= self.variables {
-            return Err(fault);
+        match area {
+            Area::Globals if i < self.globals.len() => self.globals[i] = x,
+            Area::Variables if i < self.variables => self.words[self.base + i] = x,
+            _ => return None,
         }
-        self.words[self.base + i] = x;
-        Ok(())
-    }
-
-    /// Stores a global word, or answers `fault` where there is none.
-    pub fn store_global(&mut self, fault: Fault, i: usize, x: i32) -> Result<(), Fault>
-        ensures { store_global fault i x (seen self.old) ≡ record { result = result; state = seen self.new } }
-    {
-        if i >= GLOBALS {
-            return Err(fault);
-        }
-        self.globals[i] = x;
-        Ok(())
+        Some(())
     }
 
     /// Opens an activation whose first variables are the newest operands; it begins at `target`.
     pub fn open_activation(&mut self, arguments: usize, target: usize) -> Result<(), Fault>
-        ensures { open_activation arguments target (seen self.old) ≡ record { result = result; state = seen self.new } }
+        ensures { Does (open_activation arguments target) self.old result self.new }
     {
         if arguments > self.operands {
             return Err(Fault::Broken);
@@ -118,9 +108,8 @@ impl Memory {
             operands: kept,
         };
         let mut open = Stack::over(&mut self.callers, self.depth);
-        match open.push(caller) {
-            Ok(()) => {}
-            Err(_) => return Err(Fault::Trap(Trap::Activations)),
+        if open.push(caller).is_err() {
+            return Err(Fault::Trap(Trap::Activations));
         }
         self.depth += 1;
         self.base += self.variables + kept;
@@ -132,41 +121,30 @@ impl Memory {
 
     /// Closes the newest activation.
     pub fn close_activation(&mut self) -> Result<(), Fault>
-        ensures { close_activation (seen self.old) ≡ record { result = result; state = seen self.new } }
+        ensures { Does close_activation self.old result self.new }
     {
         let mut open = Stack::over(&mut self.callers, self.depth);
-        match open.pop() {
-            None => Err(Fault::Broken),
-            Some(caller) => {
-                self.depth -= 1;
-                self.base = caller.base;
-                self.variables = caller.variables;
-                self.operands = caller.operands;
-                self.pc = caller.resume;
-                Ok(())
-            }
-        }
-    }
-
-    // All words of the newest activation become variables.
-    fn promote(&mut self)
-        ensures { seen self.new ≡ promoted (seen self.old) }
-    {
-        self.variables += self.operands;
-        self.operands = 0;
+        let caller = open.pop().ok_or(Fault::Broken)?;
+        self.depth -= 1;
+        self.base = caller.base;
+        self.variables = caller.variables;
+        self.operands = caller.operands;
+        self.pc = caller.resume;
+        Ok(())
     }
 
     /// Makes variables of all words of the newest activation, and `n` more that are 0.
     pub fn make_variables(&mut self, n: u16) -> Result<(), Fault>
-        ensures { make_variables n (seen self.old) ≡ record { result = result; state = seen self.new } }
+        ensures { Does (make_variables n) self.old result self.new }
     {
-        if self.variables + self.operands + n as usize > ROOM {
+        let held = self.variables + self.operands;
+        let all = held + n as usize;
+        if all > ROOM {
             return Err(Fault::Broken);
         }
-        for i in 0..n {
-            let _ = self.push(0);
-        }
-        self.promote();
+        self.words[self.base + held..self.base + all].fill(0);
+        self.variables = all;
+        self.operands = 0;
         Ok(())
     }
 }

@@ -1,31 +1,31 @@
-ghost use Rattle.std.specs.Prelude.{◌≡◌};
+ghost use Rattle.instructions.specs.Moves.{Does};
 ghost use Rattle.instructions.specs.Table.{obeyed};
-ghost use Rattle.memory.specs.Seen.{seen};
 
 use calculation::applied::{binary, check, combine, relate, test, unary};
 use control::flow::{self, is_channel};
 use instructions::answers::{Fault, Trap};
+use instructions::area::Area;
 use instructions::operation::Operation;
 use memory::Memory;
 use movement::moves;
 
 /// Carries out an operation that calls nothing of the port.
 pub fn obey(m: &mut Memory, operation: Operation, operand: u16) -> Result<(), Fault>
-    ensures { obeyed operation operand (seen m.old) ≡ record { result = result; state = seen m.new } }
+    ensures { Does (obeyed operation operand) m.old result m.new }
 {
     match operation {
         Operation::End => flow::end(m),
         Operation::Integer => m.push(i32::from(operand.cast_signed())),
         Operation::Set => m.push(i32::from(operand)),
-        Operation::Global => moves::load_global(m, operand),
-        Operation::StoreGlobal => moves::store_global(m, operand),
-        Operation::Local => moves::load_local(m, operand),
-        Operation::StoreLocal => moves::store_local(m, operand),
+        Operation::Global => moves::load(m, Area::Globals, operand),
+        Operation::StoreGlobal => moves::store(m, Area::Globals, operand),
+        Operation::Local => moves::load(m, Area::Variables, operand),
+        Operation::StoreLocal => moves::store(m, Area::Variables, operand),
         Operation::Index => moves::index(m, operand),
-        Operation::GlobalElement => moves::load_global_element(m, operand),
-        Operation::StoreGlobalElement => moves::store_global_element(m, operand),
-        Operation::LocalElement => moves::load_local_element(m, operand),
-        Operation::StoreLocalElement => moves::store_local_element(m, operand),
+        Operation::GlobalElement => moves::load_element(m, Area::Globals, operand),
+        Operation::StoreGlobalElement => moves::store_element(m, Area::Globals, operand),
+        Operation::LocalElement => moves::load_element(m, Area::Variables, operand),
+        Operation::StoreLocalElement => moves::store_element(m, Area::Variables, operand),
         Operation::Copy => moves::copy(m, operand),
         Operation::Swap => moves::swap(m),
         Operation::Add => binary(m, Trap::Range, integer::add),

@@ -1,7 +1,6 @@
 ghost use Rattle.std.specs.Prelude.{◌≡◌, ℕ, ◌+◌, ◌^◌, ◌<◌, length};
 ghost use Rattle.instructions.specs.State.{on};
 ghost use Rattle.instructions.specs.Steps.{failing, settled, effect, stepped};
-ghost use Rattle.memory.specs.Seen.{seen};
 ghost use Rattle.processor.specs.Shows.{shown, stretched, WithinList};
 
 use crate::obey::obey;
@@ -12,7 +11,7 @@ use memory::Memory;
 
 // An operation that was not carried out: no effect, or a trap at its place.
 fn fail(m: &mut Memory, fault: Fault, place: u16) -> Act
-    ensures { shown (failing fault place (seen m.old)) (seen m.old) ≡ record { act = result; state = seen m.new } }
+    ensures { shown (failing fault place m.old) m.old ≡ record { act = result; state = m.new } }
 {
     match fault {
         Fault::Broken => {
@@ -28,7 +27,7 @@ fn fail(m: &mut Memory, fault: Fault, place: u16) -> Act
 
 // What an operation came to.
 fn settle(m: &mut Memory, res: Result<(), Fault>, place: u16) -> Act
-    ensures { shown (settled res place (seen m.old)) (seen m.old) ≡ record { act = result; state = seen m.new } }
+    ensures { shown (settled res place m.old) m.old ≡ record { act = result; state = m.new } }
 {
     match res {
         Ok(()) => Act::Went,
@@ -38,16 +37,16 @@ fn settle(m: &mut Memory, res: Result<(), Fault>, place: u16) -> Act
 
 // Goes on to the next index.
 fn go_on(m: &mut Memory)
-    requires { (seen m.old).pc + 1 < 2 ^ 64 }
-    ensures { seen m.new ≡ on (seen m.old) }
+    requires { m.old.pc + 1 < 2 ^ 64 }
+    ensures { m.new ≡ on m.old }
 {
     m.go(m.pc() + 1);
 }
 
 // Executes an instruction as far as the memory goes.
 fn execute(m: &mut Memory, i: Instruction) -> Act
-    requires { (seen m.old).pc + 1 < 2 ^ 64 }
-    ensures { shown (effect i (seen m.old)) (seen m.old) ≡ record { act = result; state = seen m.new } }
+    requires { m.old.pc + 1 < 2 ^ 64 }
+    ensures { shown (effect i m.old) m.old ≡ record { act = result; state = m.new } }
 {
     match i.operation.port_call() {
         None => {
@@ -74,8 +73,8 @@ fn execute(m: &mut Memory, i: Instruction) -> Act
 
 // One step, by the status and the next instruction, as far as the memory goes.
 fn step(m: &mut Memory, code: &[Instruction]) -> Act
-    ensures gone { shown (stepped code.now (seen m.old)) (seen m.old) ≡ record { act = result; state = seen m.new } }
-    ensures here { WithinList result (seen m.new).pc (length code.now) }
+    ensures gone { shown (stepped code.now m.old) m.old ≡ record { act = result; state = m.new } }
+    ensures here { WithinList result m.new.pc (length code.now) }
 {
     match (m.status(), code.get(m.pc())) {
         (Status::Running, Some(i)) => execute(m, *i),
@@ -96,8 +95,8 @@ pub struct Stretch {
 /// At most `budget` steps, up to the first that asks something of the port or is not executed.
 /// The loop stands here and not where the port is, so that it is compiled once for every make of port.
 pub fn steps(m: &mut Memory, code: &[Instruction], budget: u16) -> Stretch
-    ensures gone { stretched budget code.now (seen m.old) ≡ record { executed = result.executed; act = result.act; state = seen m.new } }
-    ensures here { WithinList result.act (seen m.new).pc (length code.now) }
+    ensures gone { stretched budget code.now m.old ≡ record { executed = result.executed; act = result.act; state = m.new } }
+    ensures here { WithinList result.act m.new.pc (length code.now) }
 {
     for turn in 0..budget {
         match step(m, code) {

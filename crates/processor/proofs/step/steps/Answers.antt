@@ -1,6 +1,5 @@
 use mathlib.Core.Path.{◌≡◌, ap, sym, ◌∙◌}
 use native.Mathlib.Omega.{arith}
-use Rattle.memory.specs.Seen.{seen}
 use Rattle.processor.proofs.Stretching.{stretch_goes_on, stretch_ends, stretch_spent}
 use Rattle.processor.proofs.step.steps.Goals as goal
 
@@ -13,4 +12,4 @@ loop-turn-preserved c = stretch_goes_on c.args.budget c.loop-turn.turn c.args.co
 pub returns : goal.returns
 returns c =
     let all : c.loop-turn.turn ≡ c.args.budget = omega arith in
-    record { gone = stretch_spent c.args.budget c.loop-turn.turn c.args.code.now _ _ (seen c.loop-turn.m) c.loop-turn.invariant (sym all) ∙ ap (λ n. record { executed = n; act = _; state = seen c.loop-turn.m }) all; here = tt }
+    record { gone = stretch_spent c.args.budget c.loop-turn.turn c.args.code.now _ _ c.loop-turn.m c.loop-turn.invariant (sym all) ∙ ap (λ n. record { executed = n; act = _; state = c.loop-turn.m }) all; here = tt }

@@ -1,8 +1,7 @@
 use mathlib.Core.Path.{◌≡◌}
 use Prim.Native.Nat.{◌-◌}
-use Rattle.memory.specs.Seen.{seen}
 use Rattle.processor.specs.Shows.{stretched, before}
 use Rattle.processor.proofs.step.steps.Given as goal
 
 abbrev pub invariant-loop-turn : goal.invariant-loop-turn
-invariant-loop-turn l = stretched l.budget l.code (seen l.initial.m) ≡ before l.turn (stretched (l.budget - l.turn) l.code (seen l.m))
+invariant-loop-turn l = stretched l.budget l.code l.initial.m ≡ before l.turn (stretched (l.budget - l.turn) l.code l.m)

@@ -34,4 +34,4 @@ pub returns-in-Stopped : goal.returns-in-Stopped
 returns-in-Stopped g c = record { gone = stopped c.args.budget c.loop-executed.executed c.loop-executed.events c.steps-stretch.result.executed c.steps-stretch.result.act _ _ _ _ c.loop-executed.invariant.2 c.loop-executed-test.true c.steps-stretch.ensures.gone c.in-Stopped.outcome c.in-Stopped.ensures.gone; lent = c.meet.ensures.lent ∙ c.loop-executed.invariant.3 }
 
 pub returns : goal.returns
-returns g c = record { gone = turned_out c.args.budget c.loop-executed.executed c.loop-executed.executed c.loop-executed.events _ _ _ c.loop-executed.invariant.2 c.loop-executed-test.false (c.outcome_of.ensures ∙ ap spent c.status.ensures); lent = c.loop-executed.invariant.3 }
+returns g c = record { gone = turned_out c.args.budget c.loop-executed.executed c.loop-executed.executed c.loop-executed.events _ _ _ c.loop-executed.invariant.2 c.loop-executed-test.false (c.from.ensures ∙ ap spent c.status.ensures); lent = c.loop-executed.invariant.3 }

@@ -1,34 +1,17 @@
-use Rattle.std.proofs.Common.{◌≡◌, ◌+◌, ◌<◌, ◌≤◌, length, pos, sym, ap, ◌∙◌, arith, rules}
-use Rattle.instructions.specs.State.{size}
-use Rattle.instructions.specs.Moves.{ok, push}
-use Rattle.memory.specs.declared.store.Memory.{Memory}
-use Rattle.memory.specs.Seen.{seen, promoted}
-use Rattle.memory.proofs.Raw.{make_full, size_is}
-use Rattle.memory.proofs.Growing.{grown, grown_more, grown_made}
+use Rattle.std.proofs.Common.{◌≡◌, ◌+◌, ◌-◌, ◌≤◌, length, drop, replicate, pos, ap, ◌∙◌, arith, rules, length-drop}
+use Rattle.std.proofs.lemmas.List.{length-take-le}
+use Rattle.memory.proofs.Raw.{make_full, make_room}
 use Rattle.memory.proofs.store.Memory.make_variables.Goals as goal
 
-sized : (m : Memory) → m.base + m.variables ≤ length m.words → size (seen m).words ≡ m.variables + m.operands
-unfolding seen
-sized m h = size_is m.globals m.words m.callers m.depth m.base m.variables m.operands m.pc m.status h
-
-pub returns-then-self-n-gt-ROOM : goal.returns-then-self-n-gt-ROOM
-unfolding seen
-returns-then-self-n-gt-ROOM c =
-    let m = c.args.self.now in
-    let long : m.base + m.variables ≤ length m.words = search rules in
-    make_full _ _ _ _ _ _ _ _ _ c.args.n long c.if-self-n-gt-ROOM.true
-
-pub loop-i-preserved : goal.loop-i-preserved
-loop-i-preserved c =
-    let m = c.args.self.now in
-    let long : m.base + m.variables ≤ length m.words = search rules in
-    let room : size (seen m).words + c.loop-i.i < 256 = omega (arith, sized m long) in
-    ap (λ d. d.state) (sym c.push.ensures ∙ ap (push (pos 0)) c.loop-i.invariant ∙ grown_more c.loop-i.i (seen m) room)
+pub returns-then-all-gt-ROOM : goal.returns-then-all-gt-ROOM
+returns-then-all-gt-ROOM c = rw (← c.self.view_is) (make_full c.self.inside c.self.invariant (search rules) c.args.n c.if-all-gt-ROOM.true)
 
 pub returns : goal.returns
 returns c =
-    let m = c.args.self.now in
-    let long : m.base + m.variables ≤ length m.words = search rules in
-    let all : c.loop-i.i ≡ c.args.n = omega arith in
-    let room : size (seen m).words + c.args.n ≤ 256 = omega (arith, sized m long) in
-    grown_made c.args.n (seen m) room ∙ ap (ok tt) (sym (c.promote.ensures ∙ ap promoted (c.loop-i.invariant ∙ ap (λ k. grown k (seen m)) all)))
+    let m = c.self.inside in
+    let a = m.base + (m.variables + m.operands) in
+    let k = m.base + (m.variables + m.operands + c.args.n) - a in
+    let n : k ≡ c.args.n = omega arith in
+    let room : k ≤ length (drop a m.words) = omega (arith, length-drop a m.words) in
+    let zeros = c.fill.ensures.after (λ y h. h) ∙ ap (λ j. replicate j (pos 0)) (length-take-le k (drop a m.words) room) in
+    rw (← c.self.view_is) (make_room m c.self.invariant (search rules) c.args.n k c.fill.new.self zeros n c.if-all-gt-ROOM.false)
