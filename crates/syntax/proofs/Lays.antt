@@ -5,7 +5,8 @@ use Rattle.vocabulary.specs.declared.tag.Tag.{Tag}
 use Rattle.syntax.specs.declared.tree.NodeKind.{NodeKind}
 use Rattle.syntax.specs.declared.tree.TreeRecord.{TreeRecord}
 use Rattle.syntax.specs.Syntax.{Label, Syntax, leaf, unary, binary, size, label, entry, lay}
-use Rattle.syntax.specs.Post.{Room, Passed, Laid, Lays, Extends, Added}
+use Rattle.syntax.specs.Steps.{Room, Added}
+use Rattle.syntax.specs.Post.{Passed, Laid, Lays, Extends}
 
 -- a record written behind those in use, if it fits in
 pub added : (r : TreeRecord) (c c' : Cursor) (t t' : List TreeRecord) → c'.at ≡ c.at → c'.used ≡ min (c.used + 1) 18446744073709551615 →
@@ -223,3 +224,8 @@ extends_laid {l} {s} {r} {c} {c₁} {c₂} {t} {t₁} {t₂} long q a e z =
       few = omega arith;
       laid = λ y i b d. laid_binary l d q long e a;
     }
+
+-- symbols, one more part, and the record that joins it to what was there, with nothing behind
+pub extends_item : {k n : ℕ} {l : Label} {s : Syntax} {r : TreeRecord} {c c₁ c₂ c₃ : Cursor} {t t₁ t₂ t₃ : List TreeRecord} →
+    Passed n c t c₁ t₁ → Lays k s c₁ t₁ c₂ t₂ → Added r c₂ t₂ c₃ t₃ → r ≡ entry l (c.used - 1) (c₂.used - 1) → (j : ℕ) → suc k ≤ 2 * n + j → Extends j (λ a. binary l a s) c t c₃ t₃
+extends_item p q a e j z = extends_join {m = 0} p q a e (extends_none passed_none) j (omega arith)

@@ -1,3 +1,4 @@
 pub mod Tags
 pub mod Lays
-pub mod Goes
+pub mod Joins
+pub mod Loops

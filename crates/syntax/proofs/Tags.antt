@@ -1,10 +1,8 @@
 -- The symbols of a list of records, by their indexes.
-use Rattle.std.proofs.Common.{◌≡◌, ℕ, zero, suc, ◌+◌, ◌<◌, ◌≤◌, ◌≢◌, ◌⊎◌, List, [], ◌∷◌, length, get_or, Ok, Err, refl, ap, inl, inr, le_of_suc-le-suc, arith, le-ltb, lt-ltb, eq-eqb, ne_eqb}
+use Rattle.std.proofs.Common.{◌≡◌, ℕ, zero, suc, ◌<◌, ◌≤◌, List, [], ◌∷◌, length, get_or, refl, ap, le_of_suc-le-suc, arith}
 use Rattle.lexer.specs.declared.symbol.SymbolRecord.{SymbolRecord}
 use Rattle.grammar.specs.Codes.{code}
-use Rattle.syntax.specs.declared.step.Cursor.{Cursor}
-use Rattle.syntax.specs.declared.step.Stop.TheVariants.{Impossible}
-use Rattle.syntax.specs.Symbols.{tag_codes, tag_at, place_of, expected}
+use Rattle.syntax.specs.Symbols.{tag_codes, tag_at, place_of}
 use Rattle.vocabulary.specs.declared.tag.Tag.TheVariants.{EndOfSource}
 
 pub tag_in : (rs : List SymbolRecord) (i : ℕ) (d : SymbolRecord) → i < length rs → code (get_or rs i d).tag ≡ get_or (tag_codes rs) i 0
@@ -25,14 +23,6 @@ pub place_past : (rs : List SymbolRecord) (i : ℕ) → length rs ≤ i → ◌�
 place_past [] i h = refl
 place_past (r ∷ rs) zero h = absurd (omega arith)
 place_past (r ∷ rs) (suc i) h = place_past rs i (le_of_suc-le-suc h)
-
--- a step over a symbol, and none
-pub expected_yes : (rs : List SymbolRecord) (k a : ℕ) (c : Cursor) → a ≡ k → a ≡ get_or (tag_codes rs) c.at 0 → c.at < length rs → Ok (record { at = c.at + 1; used = c.used }) ≡ expected rs k (Ok c)
-expected_yes rs k a c h i l = rw (← i, h, eq-eqb k k refl, lt-ltb c.at (length rs) l) refl
-
-pub expected_no : (rs : List SymbolRecord) (k a : ℕ) (c : Cursor) → a ≡ get_or (tag_codes rs) c.at 0 → ((a ≡ k) × (length rs ≤ c.at)) ⊎ (a ≢ k) → Err (Impossible c.at) ≡ expected rs k (Ok c)
-expected_no rs k a c i (inl h) = rw (← i, h.0, eq-eqb k k refl, le-ltb c.at (length rs) h.1) refl
-expected_no rs k a c i (inr h) = rw (← i, ne_eqb a k h) refl
 
 pub end_past : (rs : List SymbolRecord) (i : ℕ) → length rs ≤ i → EndOfSource ≡ tag_at rs i
 end_past [] i h = refl

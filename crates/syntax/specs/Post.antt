@@ -1,5 +1,5 @@
 -- What a function of the parser does: from where it stands, the symbols of a grammar expression are read, or it stops.
-use Rattle.std.specs.Prelude.{◌≡◌, ℕ, suc, ◌+◌, ◌*◌, ◌≤◌, List, [], ◌∷◌, ◌++◌, length, take, drop, Ok, Err, Result}
+use Rattle.std.specs.Prelude.{◌≡◌, ℕ, ◌+◌, ◌*◌, ◌≤◌, List, ◌++◌, length, take, drop, Ok, Err, Result}
 use Rattle.lexer.specs.declared.symbol.SymbolRecord.{SymbolRecord}
 use Rattle.grammar.specs.Ebnf.{G, ref, Tree, yield}
 use Rattle.grammar.specs.Reader.{Why, wrong, deep, Reads, Stops}
@@ -11,7 +11,9 @@ use Rattle.syntax.specs.declared.step.Stop.TheVariants.{Impossible, TooDeep}
 use Rattle.syntax.specs.declared.tree.TreeRecord.{TreeRecord}
 use Rattle.syntax.specs.Value.{Val, value}
 use Rattle.syntax.specs.Syntax.{Syntax, size, lay}
-use Rattle.syntax.specs.Symbols.{tag_codes}
+use Rattle.syntax.specs.declared.step.Descent.{Descent}
+use Rattle.syntax.specs.Symbols.{tag_codes, symbol_at}
+use Rattle.syntax.specs.Steps.{Room, Keeps, root}
 use Rattle.syntax.specs.Actions.{act}
 
 -- so many symbols were passed, and nothing was written
@@ -20,18 +22,11 @@ pub record Passed (n : ℕ) (c : Cursor) (t : List TreeRecord) (c' : Cursor) (t'
   pub same : t' ≡ t
   pub used : c'.used ≡ c.used
 
--- one symbol was passed, whose value is its index
-pub record Taken (i : ℕ) (c : Cursor) (t : List TreeRecord) (c' : Cursor) (t' : List TreeRecord) : Type 0 where
+-- one symbol was passed, whose value is its index and whose record is r
+pub record Taken (rs : List SymbolRecord) (r : SymbolRecord) (i : ℕ) (c : Cursor) (t : List TreeRecord) (c' : Cursor) (t' : List TreeRecord) : Type 0 where
   pub index : i ≡ c.at
+  pub symbol : r ≡ symbol_at rs i
   pub passed : Passed 1 c t c' t'
-
--- so many records are enough for every source
-abbrev pub tree_limit : ℕ
-tree_limit = 2048
-
--- there is room for those in use
-abbrev pub Room : Cursor → List TreeRecord → Type 0
-Room c t = (c.used ≤ tree_limit) × (tree_limit ≤ length t)
 
 -- behind the first n records of the list before, those in use hold the tree, if there are so many
 pub record Laid (n : ℕ) (before : List TreeRecord) (s : Syntax) (c : Cursor) (t : List TreeRecord) : Type 0 where
@@ -50,19 +45,6 @@ pub record Extends (more : ℕ) (f : Syntax → Syntax) (c : Cursor) (t : List T
   pub grows : Room c' t' → c.used ≤ c'.used
   pub few : c'.used + 2 * c.at ≤ c.used + 2 * c'.at + more
   pub laid : (a : Syntax) (n : ℕ) (before : List TreeRecord) → Laid n before a c t → Laid n before (f a) c' t'
-
--- a record was written behind those in use
-pub record Added (r : TreeRecord) (c : Cursor) (t : List TreeRecord) (c' : Cursor) (t' : List TreeRecord) : Type 0 where
-  pub at : c'.at ≡ c.at
-  pub long : length t' ≡ length t
-  pub most : c'.used ≤ suc c.used
-  pub count : Room c' t' → c'.used ≡ suc c.used
-  pub laid : Room c' t' → take c'.used t' ≡ take c.used t ++ (r ∷ [])
-
-abbrev pub Pushed : TreeRecord → Result Cursor Stop → List TreeRecord → Result Cursor Stop → List TreeRecord → Type 0
-Pushed r (Ok c) t (Ok c') t' = Added r c t c' t'
-Pushed r (Ok c) t (Err k) t' = ⊥
-Pushed r (Err k) t s t' = s ≡ Err k
 
 -- of the symbols w from i on, g is refused at k, where d more may enclose factors and e more statements
 pub record Bad (d e : ℕ) (φ : Why) (g : G NT) (w : List ℕ) (i k : ℕ) : Type 0 where
@@ -86,18 +68,33 @@ module _ (source : List ℕ) (symbols : List SymbolRecord) where
     pub got : Got d e g c.at c'.at val
     pub wrote : P val c t c' t'
 
-  -- from a step on, g is read or refused; where the parser has stopped, nothing is done
-  abbrev pub Went : ℕ → ℕ → (g : G NT) → (Val Syntax g → Cursor → List TreeRecord → Cursor → List TreeRecord → Type 0) →
-      Result Cursor Stop → List TreeRecord → Result Cursor Stop → List TreeRecord → Type 0
-  Went d e g P (Ok c) t (Ok c') t' = Made d e g P c t c' t'
-  Went d e g P (Ok c) t (Err (Impossible k)) t' = Bad d e wrong g (tag_codes symbols) c.at k
-  Went d e g P (Ok c) t (Err (TooDeep k)) t' = Bad d e deep g (tag_codes symbols) c.at k
-  Went d e g P (Err k) t s t' = s ≡ Err k
+-- of the symbols w from i on, g is refused by this stop
+abbrev pub Refused : ℕ → ℕ → G NT → List ℕ → ℕ → Stop → Type 0
+Refused d e g w i (Impossible k) = Bad d e wrong g w i k
+Refused d e g w i (TooDeep k) = Bad d e deep g w i k
 
-  pub record Goes (d e : ℕ) (g : G NT) (P : Val Syntax g → Cursor → List TreeRecord → Cursor → List TreeRecord → Type 0)
-      (s : Result Cursor Stop) (t : List TreeRecord) (s' : Result Cursor Stop) (t' : List TreeRecord) : Type 0 where
-    pub went : Went d e g P s t s' t'
+-- what is written, by the source, its symbols and the value
+abbrev pub Tells : G NT → Type 1
+Tells g = List ℕ → List SymbolRecord → Val Syntax g → Cursor → List TreeRecord → Cursor → List TreeRecord → Type 0
 
-  -- the same of a nonterminal, whose tree is laid with so many records more than two for each symbol
-  abbrev pub Parses : ℕ → ℕ → ℕ → NT → Result Cursor Stop → List TreeRecord → Result Cursor Stop → List TreeRecord → Type 0
-  Parses d e more n s t s' t' = Goes d e (ref n) (λ v. Lays more v) s t s' t'
+-- g was read, and what was written
+pub record Did (d e : ℕ) (g : G NT) (P : Tells g) (p p' : Descent) : Type 0 where
+  pub keeps : Keeps p p'
+  pub made : Made p.source.now p.symbols.now d e g (P p.source.now p.symbols.now) p.here p.tree.now p'.here p'.tree.now
+
+-- g is refused
+pub record Fails (d e : ℕ) (g : G NT) (p : Descent) (k : Stop) (p' : Descent) : Type 0 where
+  pub keeps : Keeps p p'
+  pub refused : Refused d e g (tag_codes p.symbols.now) p.here.at k
+
+-- g is read, and the answer is the index of the last record; or it is refused
+abbrev pub Does : (d e : ℕ) (g : G NT) → Tells g → Descent → Result ℕ Stop → Descent → Type 0
+Does d e g P p (Ok i) p' = Did d e g P p p' × (i ≡ root p')
+Does d e g P p (Err k) p' = Fails d e g p k p'
+
+pub record Goes (d e : ℕ) (g : G NT) (P : Tells g) (p : Descent) (r : Result ℕ Stop) (p' : Descent) : Type 0 where
+  pub went : Does d e g P p r p'
+
+-- the same of a nonterminal, whose tree is laid with so many records more than two for each symbol
+abbrev pub Parses : ℕ → ℕ → ℕ → NT → Descent → Result ℕ Stop → Descent → Type 0
+Parses d e more n p r p' = Goes d e (ref n) (λ s rs v. Lays more v) p r p'

@@ -7,8 +7,7 @@ pub mod step;
 pub mod tree;
 mod words;
 
-pub use constants::{elem, set};
-pub use expressions::{args, begins_expr, expr, index};
-pub use step::{Cursor, Stop, advance, expect, impossible, next, next_place, push, root, too_deep};
+pub use constants::begins_elem;
+pub use expressions::begins_expr;
+pub use step::{Cursor, Descent, Stop};
 pub use tree::{NodeKind, TreeRecord, bare, node};
-pub use words::word_length;

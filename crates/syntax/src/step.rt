@@ -1,161 +1,166 @@
 ghost use Rattle.std.specs.Prelude.{◌≡◌, slice_index};
+ghost use Rattle.syntax.specs.declared.step.Stop.TheVariants.{Impossible};
 ghost use Rattle.grammar.specs.Codes.{code};
-ghost use Rattle.syntax.specs.Symbols.{tag_codes, tag_at, next_tag, next_code, next_place, last_root, expected, advanced, deeply, wrongly};
-ghost use Rattle.syntax.specs.Post.{Pushed};
+ghost use Rattle.syntax.specs.Symbols.{tag_codes, tag_at, word_length, number_at};
+ghost use Rattle.syntax.specs.Steps.{NextIs, Advances, Accepts, Expects, Opens, Finishes, Pushed};
 
 use crate::tree::TreeRecord;
+use crate::words;
 use lexer::SymbolRecord;
 use vocabulary::Tag;
 
-/// How far the parser has come: the next symbol, and how many tree records are in use.
+/// How far a descent has come: the next symbol, and how many tree records are in use.
 #[derive(Clone, Copy)]
 pub struct Cursor {
     pub at: usize,
     pub used: usize,
 }
 
-/// Where the parser stopped: a symbol that is impossible there, or one that encloses one too many.
+/// Where a descent stops: a symbol that is impossible there, or one that encloses one too many.
 #[derive(Clone, Copy)]
 pub enum Stop {
     Impossible(usize),
     TooDeep(usize),
 }
 
-/// The number of a tag.
-fn code_of(tag: Tag) -> u8
-    ensures { result ≡ code tag }
-{
-    tag as u8
+/// A descent over the symbols of a source, and the tree that it writes.
+pub struct Descent<'a> {
+    source: &'a [u8],
+    symbols: &'a [SymbolRecord],
+    tree: &'a mut [TreeRecord],
+    here: Cursor,
 }
 
-/// The tag of a symbol, that of the end behind the last.
-fn tag_at(symbols: &[SymbolRecord], at: usize) -> Tag
-    ensures is { result ≡ tag_at symbols.now at }
-    ensures coded { code result ≡ slice_index (tag_codes symbols.now) at }
-{
-    if at < symbols.len() {
-        symbols[at].tag
-    } else {
-        Tag::EndOfSource
+impl<'a> Descent<'a> {
+    /// A descent from the first symbol on, with no record in use.
+    pub fn new(
+        source: &'a [u8],
+        symbols: &'a [SymbolRecord],
+        tree: &'a mut [TreeRecord],
+    ) -> Descent<'a>
+        ensures read { (result.source.now ≡ source.now) × (result.symbols.now ≡ symbols.now) }
+        ensures lent { (result.tree.now ≡ tree.old) × (result.tree.ghost_name ≡ tree.entry.ghost_name) }
+        ensures here { (result.here.at ≡ 0) × (result.here.used ≡ 0) }
+    {
+        Descent {
+            source,
+            symbols,
+            tree,
+            here: Cursor { at: 0, used: 0 },
+        }
     }
 }
 
-/// The tag of the next symbol, that of the end where the parser has stopped.
-pub fn next(symbols: &[SymbolRecord], step: Result<Cursor, Stop>) -> Tag
-    ensures is { result ≡ next_tag symbols.now step }
-    ensures coded { code result ≡ next_code (tag_codes symbols.now) step }
-{
-    match step {
-        Ok(here) => tag_at(symbols, here.at),
-        Err(_) => Tag::EndOfSource,
+impl Descent<'_> {
+    /// The tag of the next symbol, that of the end behind the last.
+    pub fn next(&self) -> Tag
+        ensures is { result ≡ tag_at self.now.symbols.now self.now.here.at }
+        ensures coded { code result ≡ slice_index (tag_codes self.now.symbols.now) self.now.here.at }
+    {
+        match self.symbols.get(self.here.at) {
+            Some(symbol) => symbol.tag,
+            None => Tag::EndOfSource,
+        }
     }
-}
 
-/// The place of the next symbol.
-pub fn next_place(symbols: &[SymbolRecord], step: Result<Cursor, Stop>) -> u16
-    ensures { result ≡ next_place symbols.now step }
-{
-    match step {
-        Ok(here) => if here.at < symbols.len() {
-            symbols[here.at].place
+    /// Whether the next symbol has the tag.
+    fn is_next(&self, tag: Tag) -> bool
+        ensures { NextIs (code tag) self.now result }
+    {
+        match self.symbols.get(self.here.at) {
+            Some(symbol) => symbol.tag == tag,
+            None => false,
+        }
+    }
+
+    /// Passes over the next symbol, if there is one, and answers it.
+    pub fn advance(&mut self) -> SymbolRecord
+        ensures { Advances result self.old self.new }
+    {
+        match self.symbols.get(self.here.at) {
+            Some(symbol) => {
+                self.here.at += 1;
+                *symbol
+            }
+            None => SymbolRecord::ZERO,
+        }
+    }
+
+    /// Passes over the next symbol if it has the tag.
+    pub fn accept(&mut self, tag: Tag) -> bool
+        ensures { Accepts (code tag) self.old result self.new }
+    {
+        let found = self.is_next(tag);
+        if found {
+            self.advance();
+        }
+        found
+    }
+
+    /// Passes over the next symbol, which has to have the tag, and answers it.
+    pub fn expect(&mut self, tag: Tag) -> Result<SymbolRecord, Stop>
+        ensures { Expects (code tag) self.old result self.new }
+    {
+        if self.is_next(tag) {
+            Ok(self.advance())
         } else {
-            0
-        },
-        Err(_) => 0,
-    }
-}
-
-/// The index of the last record in use: the root of what was parsed last.
-pub fn root(step: Result<Cursor, Stop>) -> usize
-    ensures { result ≡ last_root step }
-{
-    match step {
-        Ok(here) => here.used.saturating_sub(1),
-        Err(_) => 0,
-    }
-}
-
-/// Passes over a symbol with the tag.
-pub fn expect(
-    symbols: &[SymbolRecord],
-    step: Result<Cursor, Stop>,
-    tag: Tag,
-) -> Result<Cursor, Stop>
-    ensures { result ≡ expected symbols.now (code tag) step }
-{
-    match step {
-        Ok(here) => {
-            let found = code_of(tag_at(symbols, here.at)) == code_of(tag);
-            if found && here.at < symbols.len() {
-                Ok(Cursor {
-                    at: here.at + 1,
-                    used: here.used,
-                })
-            } else {
-                Err(Stop::Impossible(here.at))
-            }
+            Err(self.impossible())
         }
-        Err(stop) => Err(stop),
     }
-}
 
-/// Passes over the next symbol.
-pub fn advance(symbols: &[SymbolRecord], step: Result<Cursor, Stop>) -> Result<Cursor, Stop>
-    ensures { result ≡ advanced symbols.now step }
-{
-    match step {
-        Ok(here) => {
-            if here.at < symbols.len() {
-                Ok(Cursor {
-                    at: here.at + 1,
-                    used: here.used,
-                })
-            } else {
-                Err(Stop::Impossible(here.at))
-            }
+    /// The stop at the next symbol, which is impossible.
+    fn impossible(&self) -> Stop
+        ensures { result ≡ Impossible self.now.here.at }
+    {
+        Stop::Impossible(self.here.at)
+    }
+
+    /// Passes over the next symbol, which has to have the tag and encloses one of `room`, and answers it and the room inside.
+    pub fn open(&mut self, tag: Tag, room: u8) -> Result<(SymbolRecord, u8), Stop>
+        ensures { Opens (code tag) room self.old result self.new }
+    {
+        if !self.is_next(tag) {
+            return Err(self.impossible());
         }
-        Err(stop) => Err(stop),
-    }
-}
-
-/// Stops at the next symbol, which is impossible.
-pub fn impossible(step: Result<Cursor, Stop>) -> Result<Cursor, Stop>
-    ensures { result ≡ wrongly step }
-{
-    match step {
-        Ok(here) => Err(Stop::Impossible(here.at)),
-        Err(stop) => Err(stop),
-    }
-}
-
-/// Stops at the next symbol, which encloses one too many.
-pub fn too_deep(step: Result<Cursor, Stop>) -> Result<Cursor, Stop>
-    ensures { result ≡ deeply step }
-{
-    match step {
-        Ok(here) => Err(Stop::TooDeep(here.at)),
-        Err(stop) => Err(stop),
-    }
-}
-
-/// Writes the next record.
-pub fn push(
-    tree: &mut [TreeRecord],
-    step: Result<Cursor, Stop>,
-    node: TreeRecord,
-) -> Result<Cursor, Stop>
-    ensures { Pushed node step tree.old result tree.new }
-{
-    match step {
-        Ok(here) => {
-            if here.used < tree.len() {
-                tree[here.used] = node;
-            }
-            Ok(Cursor {
-                at: here.at,
-                used: here.used.saturating_add(1),
-            })
+        match room.checked_sub(1) {
+            Some(inside) => Ok((self.advance(), inside)),
+            None => Err(Stop::TooDeep(self.here.at)),
         }
-        Err(stop) => Err(stop),
+    }
+
+    /// How far it has come, if no symbol is left.
+    pub fn finish(&self) -> Result<Cursor, Stop>
+        ensures { Finishes self.now result }
+    {
+        if self.here.at < self.symbols.len() {
+            Err(self.impossible())
+        } else {
+            Ok(self.here)
+        }
+    }
+
+    /// How long the word is that the symbol stands for.
+    pub fn word_length(&self, symbol: SymbolRecord) -> usize
+        ensures { result ≡ word_length self.now.source.now symbol.place }
+    {
+        words::word_length(self.source, symbol.place as usize)
+    }
+
+    /// The value of the number that the symbol stands for.
+    pub(crate) fn number_at(&self, symbol: SymbolRecord) -> usize
+        ensures { result ≡ number_at self.now.source.now symbol.place }
+    {
+        words::number_at(self.source, symbol.place as usize)
+    }
+
+    /// Writes the next record, if there is room, and answers its index.
+    pub fn push(&mut self, node: TreeRecord) -> usize
+        ensures { Pushed node result self.old self.new }
+    {
+        if self.here.used < self.tree.len() {
+            self.tree[self.here.used] = node;
+        }
+        self.here.used = self.here.used.saturating_add(1);
+        self.here.used - 1
     }
 }

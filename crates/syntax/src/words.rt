@@ -15,12 +15,8 @@ pub fn word_length(source: &[u8], place: usize) -> usize
 pub fn number_at(source: &[u8], place: usize) -> usize
     ensures { result ≡ number_at source.now place }
 {
-    if place > source.len() {
-        return 0;
-    }
-    let length = word_length(source, place);
-    match number_value(&source[place..place + length]) {
-        Ok(value) => value as usize,
-        Err(_) => 0,
+    match source.get(place..) {
+        Some(rest) => number_value(&rest[..run(rest)]).unwrap_or(0) as usize,
+        None => 0,
     }
 }

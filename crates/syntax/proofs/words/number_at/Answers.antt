@@ -1,16 +1,18 @@
-use Rattle.std.proofs.Common.{◌≡◌, ◌+◌, ◌-◌, take, drop, sym, ap, ◌∙◌, arith}
-use Rattle.std.proofs.lemmas.List.{drop_all}
+use Rattle.std.proofs.Common.{◌≡◌, w32, ℤ, pos, to_z, of_z, unsigned_abs, take, drop, Ok, Err, Result, ap, ap₂, ◌∙◌, arith, rules}
+use Rattle.std.specs.Result.{result_unwrap_or}
+use Rattle.faults.specs.declared.kind.FaultKind.{FaultKind}
+use Rattle.std.proofs.lemmas.Grind.{common_steps}
 use Rattle.vocabulary.specs.Characters.{run}
 use Rattle.vocabulary.specs.Numbers.{number_value, judged}
 use Rattle.syntax.specs.Symbols.{value_or0}
 use Rattle.syntax.proofs.words.number_at.Goals as goal
 
-pub returns-then-place-source : goal.returns-then-place-source
-returns-then-place-source c =
-    sym (ap (λ xs. value_or0 (judged (number_value (take (run xs) xs)))) (drop_all c.args.place c.args.source.now (omega arith)))
+or_none : (r : Result ℤ FaultKind) (z : ℤ) → z ≡ result_unwrap_or r (pos 0) → unsigned_abs z ≡ value_or0 r
+or_none (Ok x) z e = ap unsigned_abs e
+or_none (Err k) z e = ap unsigned_abs e
 
-pub returns-in-Err : goal.returns-in-Err
-returns-in-Err c =
-    let e : c.args.place + c.word_length-length.result - c.args.place ≡ c.word_length-length.result = omega arith in
-    ap value_or0 c.in-Err.ensures
-    ∙ ap (λ n. value_or0 (judged (number_value (take n (drop c.args.place c.args.source.now))))) (e ∙ c.word_length-length.ensures.is)
+pub returns-in-Some : goal.returns-in-Some
+returns-in-Some c =
+    let e : c.in-Some.rest.now ≡ drop c.args.place c.args.source.now = grind (arith, common_steps) in
+    let z : to_z w32 (of_z w32 c.unwrap_or.result) ≡ c.unwrap_or.result = search rules in
+    ap unsigned_abs z ∙ or_none c.number_value.result c.unwrap_or.result c.unwrap_or.ensures ∙ ap value_or0 (c.number_value.ensures ∙ ap₂ (λ n xs. judged (number_value (take n xs))) (c.run.ensures.is ∙ ap run e) e)
