@@ -15,6 +15,7 @@ pub trait Port {
     ghost meaning: { Self → Meaning };
 
     /// The names of what is lent to the port: no call exchanges any of it.
+    // Every call says so in a clause of its own: only by it does a caller know a reference inside a port again.
     ghost lenders: { Self → List ℕ };
 
     /// No channel is deeper than 4,096, and all that it holds and answers are INTEGERs.

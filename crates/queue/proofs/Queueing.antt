@@ -1,11 +1,10 @@
 -- What a queue answers, and what it means after each call.
-use Rattle.std.proofs.Common.{◌≡◌, ℕ, suc, ◌+◌, ◌-◌, ◌*◌, ◌<◌, ◌≤◌, min, ◌≢◌, List, [], ◌∷◌, ◌++◌, length, get_or, set, replicate, ℤ, pos, Some, None, Ok, Err, Result, sym, refl, ap, ◌∙◌, ap₂, inl, inr, arith}
+use Rattle.std.proofs.Common.{◌≡◌, ℕ, suc, ◌+◌, ◌-◌, ◌<◌, ◌≤◌, ◌≢◌, List, [], ◌∷◌, ◌++◌, length, get_or, set, replicate, ℤ, pos, Some, None, Ok, Err, Result, sym, refl, ap, ◌∙◌, ap₂, inl, inr, arith}
 use mathlib.Core.Path.{fun_ext}
 use Rattle.std.proofs.lemmas.List.{get_or-set_same, get_or-set_other, get_or_past, length-set}
 use Rattle.std.proofs.lemmas.Bool.{cases_lt}
-use Rattle.std.proofs.lemmas.Bool.Decides.{nat_tests}
 use Rattle.ports.specs.declared.seen.Seen.{Seen}
-use Rattle.ports.specs.Channels.{Channel, Meaning, channels, holding}
+use Rattle.ports.specs.Channels.{Meaning, channels, holding}
 use Rattle.ports.specs.Calls.{changed, fed, oldest, newer, feed_answer, feed_after, take_answer, take_after, set_after, look_answer}
 use Rattle.ports.specs.Layers.{plain, blank}
 use Rattle.ports.specs.Stored.{stored}
@@ -13,27 +12,12 @@ use Rattle.ports.proofs.Changing.{get_or_row, changed_by, answered, fed_room, fe
 use Rattle.ports.proofs.Integers.{stored_same}
 use Rattle.ports.proofs.Width.{Fits}
 use Rattle.queue.specs.declared.Ring.{Ring}
-use Rattle.queue.specs.Queued.{share, wrap, place, samples, head_in, ring_channel, empty_ring, queued}
+use Rattle.queue.specs.Queued.{share, wrap, place, samples, IsInside, ring_channel, empty_ring, queued}
 use Rattle.queue.proofs.Ringing.{length_samples, samples_fed, samples_other, samples_took, samples_oldest}
-
-head_below : (d h : ℕ) → 0 < d → head_in d h < d
-head_below d h p = grind (arith, nat_tests)
-
-head_same : (d h : ℕ) → h < d → head_in d h ≡ h
-head_same d h p = grind (arith, nat_tests)
-
-round_below : (d h : ℕ) → h < d → wrap d (h + 1) < d
-round_below d h p = grind (arith, nat_tests)
 
 pub queued_new : (xs : List ℤ) → queued xs (replicate 16 empty_ring) ≡ blank (share (length xs))
 unfolding stored
-queued_new xs = go (share (length xs))
-  where
-    none : (d k : ℕ) → ring_channel xs d k empty_ring ≡ plain d [] (pos 0)
-    none d k = let e : min 0 d ≡ 0 = omega arith in ap (λ n. plain d (samples xs d k (head_in d 0) n) (pos 0)) e
-
-    go : (d : ℕ) → (λ k. ring_channel xs d k (get_or (replicate 16 empty_ring) k empty_ring)) ≡ blank d
-    go d = fun_ext (λ k. ap (ring_channel xs d k) (get_or_row 16 k empty_ring) ∙ none d k)
+queued_new xs = fun_ext (λ k. ap (ring_channel xs (share (length xs)) k) (get_or_row 16 k empty_ring))
 
 module _ (xs : List ℤ) (rings : List Ring) (c : ℕ) (hc : c < channels) where
   abbrev d : ℕ
@@ -46,14 +30,10 @@ module _ (xs : List ℤ) (rings : List Ring) (c : ℕ) (hc : c < channels) where
   r = get_or rings c empty_ring
 
   abbrev h : ℕ
-  h = head_in d r.head
+  h = r.head
 
   abbrev n : ℕ
-  n = min r.count d
-
-  -- the channel with n samples from place a on
-  abbrev from : ℕ → ℕ → Channel
-  from a b = plain d (samples xs d c a b) (stored r.last)
+  n = r.count
 
   replaced : (s : Ring) → length rings ≡ 16 → queued xs (set rings c s) ≡ changed m c (ring_channel xs d c s)
   replaced s hl = changed_by m (queued xs (set rings c s)) c (ring_channel xs d c s) hc (ap (ring_channel xs d c) (get_or-set_same rings c s empty_ring (omega arith))) (λ k ne. ap (ring_channel xs d k) (get_or-set_other rings c k s empty_ring ne))
@@ -67,49 +47,39 @@ module _ (xs : List ℤ) (rings : List Ring) (c : ℕ) (hc : c < channels) where
   pub queued_set : (v : ℤ) → Fits v → length rings ≡ 16 → queued xs (set rings c (record { head = r.head; count = r.count; last = v })) ≡ set_after m c v
   queued_set v fits hl = replaced _ hl ∙ ap (changed m c) (ap (plain d (samples xs d c h n)) (stored_same v fits))
 
-  pub queued_feed_full : d ≤ r.count → Err 52 ≡ feed_answer m c
-  queued_feed_full l = feed_full m c hc (rw (length_samples xs d c h n) (omega arith))
+  pub queued_feed_full : d ≤ n → Err 52 ≡ feed_answer m c
+  queued_feed_full l = feed_full m c hc (rw (length_samples xs d c h n) l)
 
-  pub queued_fed_full : (v : ℤ) → d ≤ r.count → m ≡ feed_after m c v
-  queued_fed_full v l = fed_full m c hc v (rw (length_samples xs d c h n) (omega arith))
+  pub queued_fed_full : (v : ℤ) → d ≤ n → m ≡ feed_after m c v
+  queued_fed_full v l = fed_full m c hc v (rw (length_samples xs d c h n) l)
 
-  pub queued_feed : r.count < d → Ok tt ≡ feed_answer m c
-  queued_feed l = feed_room m c hc (rw (length_samples xs d c h n) (omega arith))
+  pub queued_feed : n < d → Ok tt ≡ feed_answer m c
+  queued_feed l = feed_room m c hc (rw (length_samples xs d c h n) l)
 
-  pub queued_fed : (v : ℤ) → Fits v → length rings ≡ 16 → r.count < d → queued (set xs (place d h r.count c) v) (set rings c (record { head = r.head; count = r.count + 1; last = r.last })) ≡ feed_after m c v
-  queued_fed v fits hl l = ap (λ a. shaped (share a)) (length-set xs (place d h b c) v) ∙ changed_by m (shaped d) c (fed (m c) v) hc (ap (ring_channel ys d c) (get_or-set_same rings c more empty_ring (omega arith)) ∙ here) other
+  pub queued_fed : (v : ℤ) → Fits v → length rings ≡ 16 → IsInside d r → n < d → queued (set xs (place d h n c) v) (set rings c (record { head = h; count = n + 1; last = r.last })) ≡ feed_after m c v
+  queued_fed v fits hl inside l = ap (λ a. shaped (share a)) (length-set xs (place d h n c) v) ∙ changed_by m (shaped d) c (fed (m c) v) hc (ap (ring_channel ys d c) (get_or-set_same rings c more empty_ring (omega arith)) ∙ here) other
     where
-      b : ℕ
-      b = r.count
-
       ys : List ℤ
-      ys = set xs (place d h b c) v
+      ys = set xs (place d h n c) v
 
       more : Ring
-      more = record { head = r.head; count = b + 1; last = r.last }
+      more = record { head = h; count = n + 1; last = r.last }
 
       shaped : ℕ → Meaning
       shaped e k = ring_channel ys e k (get_or (set rings c more) k empty_ring)
 
-      one_more : min (b + 1) d ≡ b + 1
-      one_more = omega arith
-
-      all : b ≡ n
-      all = omega arith
-
       here : ring_channel ys d c more ≡ fed (m c) v
       here =
           ap (λ w. plain d w (stored r.last))
-          (ap (samples ys d c h) one_more
-          ∙ samples_fed xs d c h b v hc (head_below d r.head (omega arith)) l (omega arith)
-          ∙ ap₂ (λ a z. samples xs d c h a ++ z ∷ []) all (stored_same v fits))
-          ∙ sym (fed_room m c hc v (rw (length_samples xs d c h n) (omega arith)))
+          (samples_fed xs d c h n v hc inside.head l (omega arith)
+          ∙ ap (λ z. samples xs d c h n ++ z ∷ []) (stored_same v fits))
+          ∙ sym (fed_room m c hc v (rw (length_samples xs d c h n) l))
 
-      other_samples : (k : ℕ) (s : Ring) → k ≢ c → (channels ≤ k → s.count ≡ 0) → samples ys d k (head_in d s.head) (min s.count d) ≡ samples xs d k (head_in d s.head) (min s.count d)
+      other_samples : (k : ℕ) (s : Ring) → k ≢ c → (channels ≤ k → s.count ≡ 0) → samples ys d k s.head s.count ≡ samples xs d k s.head s.count
       other_samples k s ne past =
           elim (cases_lt k 16) [
-            | inl q ↦ samples_other xs d c k (head_in d s.head) (min s.count d) (wrap d (h + b)) v hc q ne
-            | inr q ↦ (let e : min s.count d ≡ 0 = omega (arith, past q) in ap (samples ys d k (head_in d s.head)) e ∙ sym (ap (samples xs d k (head_in d s.head)) e))
+            | inl q ↦ samples_other xs d c k s.head s.count (wrap d (h + n)) v hc q ne
+            | inr q ↦ ap (samples ys d k s.head) (past q) ∙ sym (ap (samples xs d k s.head) (past q))
           ]
 
       other : (k : ℕ) → (k ≡ c → ⊥) → shaped d k ≡ m k
@@ -121,27 +91,13 @@ module _ (xs : List ℤ) (rings : List Ring) (c : ℕ) (hc : c < channels) where
   queued_none z = sym (answered c _ hc ∙ ap (λ a. Ok (oldest (samples xs d c h a))) z)
 
   pub queued_left : n ≡ 0 → m ≡ take_after m c
-  queued_left z = changed_by m m c (holding (m c) (newer (m c).waiting)) hc (ap (from h) z ∙ sym (ap (λ a. holding (m c) (newer (samples xs d c h a))) z)) (λ k ne. refl)
+  queued_left z = changed_by m m c (holding (m c) (newer (m c).waiting)) hc (ap (λ a. plain d (samples xs d c h a) (stored r.last)) z ∙ sym (ap (λ a. holding (m c) (newer (samples xs d c h a))) z)) (λ k ne. refl)
 
-  pub queued_take : 0 < n → Fits (get_or xs (h * 16 + c) (pos 0)) → Ok (Some (get_or xs (h * 16 + c) (pos 0))) ≡ take_answer m c
-  queued_take p fits = sym (answered c _ hc ∙ ap (λ a. Ok (oldest (samples xs d c h a))) more ∙ ap Ok (samples_oldest xs d c h (n - 1) (head_below d r.head (omega arith))) ∙ ap (λ z. Ok (Some z)) (stored_same _ fits))
-    where
-      more : n ≡ suc (n - 1)
-      more = omega arith
+  more : 0 < n → suc (n - 1) ≡ n
+  more p = omega arith
 
-  pub queued_took : length rings ≡ 16 → 0 < n → queued xs (set rings c (record { head = wrap d (h + 1); count = n - 1; last = r.last })) ≡ take_after m c
-  queued_took hl p = replaced _ hl ∙ ap (changed m c) here
-    where
-      hd : h < d
-      hd = head_below d r.head (omega arith)
+  pub queued_take : 0 < n → Fits (get_or xs (place d h 0 c) (pos 0)) → Ok (Some (get_or xs (place d h 0 c) (pos 0))) ≡ take_answer m c
+  queued_take p fits = sym (answered c _ hc ∙ ap (λ a. Ok (oldest (samples xs d c h a))) (sym (more p)) ∙ ap Ok (samples_oldest xs d c h (n - 1)) ∙ ap (λ z. Ok (Some z)) (stored_same _ fits))
 
-      more : suc (n - 1) ≡ n
-      more = omega arith
-
-      fewer : min (n - 1) d ≡ n - 1
-      fewer = omega arith
-
-      here : from (head_in d (wrap d (h + 1))) (min (n - 1) d) ≡ plain d (newer (samples xs d c h n)) (stored r.last)
-      here =
-          ap₂ from (head_same d (wrap d (h + 1)) (round_below d h hd)) fewer
-          ∙ ap (λ w. plain d w (stored r.last)) (samples_took xs d c h (n - 1) hd (omega arith) ∙ ap (λ e. newer (samples xs d c h e)) more)
+  pub queued_took : length rings ≡ 16 → IsInside d r → 0 < n → queued xs (set rings c (record { head = wrap d (h + 1); count = n - 1; last = r.last })) ≡ take_after m c
+  queued_took hl inside p = replaced _ hl ∙ ap (λ w. changed m c (plain d w (stored r.last))) (samples_took xs d c h (n - 1) inside.head (omega (arith, inside.count)) ∙ ap (λ e. newer (samples xs d c h e)) (more p))

@@ -1,5 +1,5 @@
 -- A queue keeps the law of ports.
-use Rattle.std.specs.Prelude.{ℕ, ◌/◌, min, List, [], ◌∷◌, length, get_or, ℤ, pos, slice_index_or}
+use Rattle.std.specs.Prelude.{ℕ, ◌/◌, List, [], ◌∷◌, length, get_or, ℤ, pos, slice_index_or}
 use Rattle.std.proofs.Math.Nat.{min-le_right}
 use Rattle.std.specs.List.{range_with_len, AllByRecursion}
 use Rattle.std.proofs.ByRecursion.{All-map}
@@ -7,7 +7,7 @@ use Rattle.ports.specs.Law.{Integer, Lawful, deepest}
 use Rattle.ports.specs.Stored.{stored}
 use Rattle.ports.proofs.Integers.{stored_integer}
 use Rattle.queue.specs.declared.Ring.{Ring}
-use Rattle.queue.specs.Queued.{share, place, head_in, samples, empty_ring, queued}
+use Rattle.queue.specs.Queued.{share, place, samples, empty_ring, queued}
 
 each : (P : ℕ → Type 0) → ((n : ℕ) → P n) → (ns : List ℕ) → AllByRecursion P ns
 each P h [] = tt
@@ -22,7 +22,7 @@ queued_lawful xs rings k =
     let r = get_or rings k empty_ring in
     record {
       shallow = min-le_right (length xs / 16) deepest;
-      waits = samples_integers xs (share (length xs)) k (head_in (share (length xs)) r.head) (min r.count (share (length xs)));
+      waits = samples_integers xs (share (length xs)) k r.head r.count;
       shows = stored_integer r.last;
       reads = λ v h. h;
       sets = λ v h. h;

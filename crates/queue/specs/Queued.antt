@@ -1,5 +1,5 @@
--- What a queue means: a ring of samples for each channel, whatever numbers the queue keeps.
-use Rattle.std.specs.Prelude.{ℕ, ◌+◌, ◌-◌, ◌*◌, ◌/◌, min, cond, List, map, length, ℤ, pos, nat_lt, slice_index_or}
+-- What a queue means: a ring of samples for each channel.
+use Rattle.std.specs.Prelude.{ℕ, ◌+◌, ◌-◌, ◌*◌, ◌/◌, ◌≤◌, min, cond, List, map, length, ℤ, pos, nat_lt, slice_index_or}
 use Rattle.std.specs.List.{range_with_len}
 use Rattle.ports.specs.Channels.{Channel, Meaning}
 use Rattle.ports.specs.Law.{deepest}
@@ -23,13 +23,14 @@ place d h i c = wrap d (h + i) * 16 + c
 abbrev pub samples : List ℤ → ℕ → ℕ → ℕ → ℕ → List ℤ
 samples xs d c h n = map (λ i. stored (slice_index_or xs (place d h i c) (pos 0))) (range_with_len 0 n)
 
--- a head, which is 0 where it would lie outside the d places
-abbrev pub head_in : ℕ → ℕ → ℕ
-head_in d h = cond (nat_lt h d) h 0
+-- a ring lies inside the d places of its channel
+pub record IsInside (d : ℕ) (r : Ring) : Type 0 where
+  pub head : r.head ≤ d
+  pub count : r.count ≤ d
 
--- a ring is a channel d deep: at most d of its samples wait
+-- a ring is a channel d deep
 abbrev pub ring_channel : List ℤ → ℕ → ℕ → Ring → Channel
-ring_channel xs d c r = plain d (samples xs d c (head_in d r.head) (min r.count d)) (stored r.last)
+ring_channel xs d c r = plain d (samples xs d c r.head r.count) (stored r.last)
 
 -- a ring that keeps nothing
 abbrev pub empty_ring : Ring

@@ -1,14 +1,15 @@
 //! A port that holds a ring of samples on each channel, in memory that it is lent.
 #![tactic(auto)]
 
-ghost use Rattle.std.specs.Prelude.{◌≡◌, ◌≤◌, [], ◌∷◌, length};
+ghost use Rattle.std.specs.Prelude.{◌≡◌, ℕ, ◌<◌, ◌≤◌, [], ◌∷◌, length, slice_index_or};
 ghost use Rattle.ports.specs.Layers.{blank};
 ghost use Rattle.queue.specs.Lawful.{queued_lawful};
-ghost use Rattle.queue.specs.Queued.{share, wrap, place, head_in, queued};
+ghost use Rattle.queue.specs.Queued.{share, wrap, place, IsInside, empty_ring, queued};
 
+use ports::channel::channel_index;
 use ports::port::Port;
 use ports::refusal::Refusal;
-use ports::sample::{CHANNELS, Sample};
+use ports::sample::Sample;
 use ports::seen::Seen;
 
 /// No channel is deeper.
@@ -23,10 +24,12 @@ pub struct Ring {
 }
 
 /// A port whose channels share a memory: sample `i` of channel `c` lies at a place that is `c` past a multiple of 16.
+/// No ring reaches past its channel's share.
 #[derive(Drop)]
 pub struct Queue<'a> {
     memory: &'a mut [Sample],
     rings: [Ring; 16],
+    ghost inside: { (k : ℕ) → IsInside (share (length memory.now)) (slice_index_or rings k empty_ring) },
 }
 
 impl<'a> Queue<'a> {
@@ -54,13 +57,6 @@ fn share_of(samples: usize) -> u16
     (samples / 16).min(DEEPEST) as u16
 }
 
-/// `head`, or 0 where it lies outside the ring.
-fn head_of(depth: u16, head: u16) -> u16
-    ensures { result ≡ head_in depth head }
-{
-    if head < depth { head } else { 0 }
-}
-
 /// `x`, or what it is past `depth`.
 fn wrapped(depth: u16, x: u16) -> u16
     ensures { result ≡ wrap depth x }
@@ -68,12 +64,15 @@ fn wrapped(depth: u16, x: u16) -> u16
     if x < depth { x } else { x - depth }
 }
 
-/// Where sample `i` of channel `c` lies, with the oldest at `head`.
-fn place_of(depth: u16, head: u16, i: u16, c: u8) -> usize
-    requires { (depth ≤ 4096) × ((head ≤ 4096) × (i ≤ 4096)) }
-    ensures { result ≡ place depth head i c }
-{
-    wrapped(depth, head + i) as usize * 16 + c as usize
+impl Ring {
+    /// Where sample `i` of channel `c` lies, if each channel has `depth` places.
+    fn place(self, depth: u16, i: u16, c: usize) -> usize
+        requires ring { IsInside depth self }
+        requires bounds { (depth ≤ 4096) × ((i ≤ depth) × (c < 16)) }
+        ensures { result ≡ place depth self.head i c }
+    {
+        wrapped(depth, self.head + i) as usize * 16 + c
+    }
 }
 
 impl<'a> Port for Queue<'a> {
@@ -84,60 +83,46 @@ impl<'a> Port for Queue<'a> {
     ghost lawful = { λ q. queued_lawful q.memory.now q.rings };
 
     fn feed(&mut self, c: u8, v: Sample) -> Result<(), Refusal> {
-        if c >= CHANNELS {
-            return Err(Refusal::NoChannel);
-        }
-        let i = c as usize;
+        let i = channel_index(c)?;
         let depth = share_of(self.memory.len());
         let ring = self.rings[i];
         if ring.count >= depth {
             return Err(Refusal::Full);
         }
-        let head = head_of(depth, ring.head);
-        let free = place_of(depth, head, ring.count, c);
+        let free = ring.place(depth, ring.count, i);
         self.memory[free] = v;
         self.rings[i].count = ring.count + 1;
         Ok(())
     }
 
     fn take(&mut self, c: u8) -> Result<Option<Sample>, Refusal> {
-        if c >= CHANNELS {
-            return Err(Refusal::NoChannel);
-        }
-        let i = c as usize;
+        let i = channel_index(c)?;
         let depth = share_of(self.memory.len());
         let ring = self.rings[i];
-        let count = ring.count.min(depth);
-        if count == 0 {
+        if ring.count == 0 {
             return Ok(None);
         }
-        let head = head_of(depth, ring.head);
-        let oldest = self.memory[head as usize * 16 + i];
+        let oldest = self.memory[ring.place(depth, 0, i)];
         self.rings[i] = Ring {
-            head: wrapped(depth, head + 1),
-            count: count - 1,
+            head: wrapped(depth, ring.head + 1),
+            count: ring.count - 1,
             last: ring.last,
         };
         Ok(Some(oldest))
     }
 
     fn set(&mut self, c: u8, v: Sample) -> Result<(), Refusal> {
-        if c >= CHANNELS {
-            return Err(Refusal::NoChannel);
-        }
-        self.rings[c as usize].last = v;
+        let i = channel_index(c)?;
+        self.rings[i].last = v;
         Ok(())
     }
 
     fn look(&self, c: u8) -> Result<Seen, Refusal> {
-        if c >= CHANNELS {
-            return Err(Refusal::NoChannel);
-        }
-        let depth = share_of(self.memory.len());
-        let ring = self.rings[c as usize];
+        let i = channel_index(c)?;
+        let Ring { count, last, .. } = self.rings[i];
         Ok(Seen {
-            waiting: ring.count.min(depth),
-            last: ring.last,
+            waiting: count,
+            last,
         })
     }
 }

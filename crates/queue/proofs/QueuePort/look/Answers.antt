@@ -1,6 +1,6 @@
-use Rattle.std.proofs.Common.{◌≡◌, min, length, get_or, Ok, ◌∙◌, ap₂, arith, rules}
+use Rattle.std.proofs.Common.{get_or, Ok, ap, ◌∙◌, rules}
 use Rattle.ports.proofs.Width.{Fits, same}
-use Rattle.queue.specs.Queued.{share, empty_ring}
+use Rattle.queue.specs.Queued.{empty_ring}
 use Rattle.queue.proofs.Queueing.{queued_look}
 use Rattle.queue.proofs.QueuePort.look.Goals as goal
 
@@ -10,7 +10,5 @@ returns c =
     let rings = c.args.self.now.rings in
     let k = c.args.c in
     let r = get_or rings k empty_ring in
-    let hc = c.if-c-ge-CHANNELS.false in
     let fl : Fits r.last = search rules in
-    let en : c.min.result ≡ min r.count (share (length xs)) = omega arith in
-    ap₂ (λ n z. Ok (record { waiting = n; last = z })) en (same r.last fl) ∙ queued_look xs rings k hc fl
+    rw c.in_ok-i.ensures.0 (ap (λ z. Ok (record { waiting = r.count; last = z })) (same r.last fl) ∙ queued_look xs rings k c.in_ok-i.ensures.1 fl)
