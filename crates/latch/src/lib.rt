@@ -6,9 +6,10 @@ ghost use Rattle.latch.specs.Latched.{latched};
 ghost use Rattle.latch.specs.Lawful.{latched_lawful};
 ghost use Rattle.ports.specs.Layers.{blank};
 
+use ports::channel::channel_index;
 use ports::port::Port;
 use ports::refusal::Refusal;
-use ports::sample::{CHANNELS, Sample};
+use ports::sample::Sample;
 use ports::seen::Seen;
 
 /// What one channel of a latch keeps.
@@ -45,55 +46,28 @@ impl Port for Latch {
     ghost lawful = { λ t. latched_lawful t.slots };
 
     fn feed(&mut self, c: u8, v: Sample) -> Result<(), Refusal> {
-        if c >= CHANNELS {
-            return Err(Refusal::NoChannel);
+        let i = channel_index(c)?;
+        if self.slots[i].waiting.is_some() {
+            return Err(Refusal::Full);
         }
-        let i = c as usize;
-        let slot = self.slots[i];
-        match slot.waiting {
-            Some(_) => Err(Refusal::Full),
-            None => {
-                self.slots[i].waiting = Some(v);
-                Ok(())
-            }
-        }
+        self.slots[i].waiting = Some(v);
+        Ok(())
     }
 
     fn take(&mut self, c: u8) -> Result<Option<Sample>, Refusal> {
-        if c >= CHANNELS {
-            return Err(Refusal::NoChannel);
-        }
-        let i = c as usize;
-        let slot = self.slots[i];
-        match slot.waiting {
-            Some(z) => {
-                self.slots[i].waiting = None;
-                Ok(Some(z))
-            }
-            None => Ok(None),
-        }
+        Ok(self.slots[channel_index(c)?].waiting.take())
     }
 
     fn set(&mut self, c: u8, v: Sample) -> Result<(), Refusal> {
-        if c >= CHANNELS {
-            return Err(Refusal::NoChannel);
-        }
-        self.slots[c as usize].last = v;
+        self.slots[channel_index(c)?].last = v;
         Ok(())
     }
 
     fn look(&self, c: u8) -> Result<Seen, Refusal> {
-        if c >= CHANNELS {
-            return Err(Refusal::NoChannel);
-        }
-        let slot = self.slots[c as usize];
-        let waiting = match slot.waiting {
-            Some(_) => 1,
-            None => 0,
-        };
+        let Slot { waiting, last } = self.slots[channel_index(c)?];
         Ok(Seen {
-            waiting,
-            last: slot.last,
+            waiting: waiting.is_some() as u16,
+            last,
         })
     }
 }
