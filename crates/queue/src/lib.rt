@@ -112,14 +112,12 @@ impl<'a> Port for Queue<'a> {
     }
 
     fn set(&mut self, c: u8, v: Sample) -> Result<(), Refusal> {
-        let i = channel_index(c)?;
-        self.rings[i].last = v;
+        self.rings[channel_index(c)?].last = v;
         Ok(())
     }
 
     fn look(&self, c: u8) -> Result<Seen, Refusal> {
-        let i = channel_index(c)?;
-        let Ring { count, last, .. } = self.rings[i];
+        let Ring { count, last, .. } = self.rings[channel_index(c)?];
         Ok(Seen {
             waiting: count,
             last,

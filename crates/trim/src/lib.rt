@@ -9,6 +9,7 @@ ghost use Rattle.trim.specs.Lawful.{trimmed_lawful};
 
 use crate::offsets::Offsets;
 use integer::saturate;
+use ports::channel::channel_index;
 use ports::port::Port;
 use ports::refusal::Refusal;
 use ports::sample::Sample;
@@ -50,11 +51,8 @@ impl<P: Port> Port for Trim<P> {
     }
 
     fn take(&mut self, c: u8) -> Result<Option<Sample>, Refusal> {
-        let got = self.lower.take(c)?;
-        match got {
-            Some(z) => Ok(Some(lessened(z, self.offsets.each[c as usize]))),
-            None => Ok(None),
-        }
+        let offset = self.offsets.each[channel_index(c)?];
+        Ok(self.lower.take(c)?.map(|z| lessened(z, offset)))
     }
 
     fn set(&mut self, c: u8, v: Sample) -> Result<(), Refusal> {

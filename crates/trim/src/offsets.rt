@@ -2,8 +2,9 @@ ghost use Rattle.std.specs.Prelude.{◌≡◌, replicate, pos, is_ok, if◌then�
 ghost use Rattle.ports.specs.Calls.{set_answer};
 ghost use Rattle.ports.specs.Refusals.{numbered};
 
+use ports::channel::channel_index;
 use ports::refusal::Refusal;
-use ports::sample::{CHANNELS, Sample};
+use ports::sample::Sample;
 
 /// An offset for each channel.
 #[derive(Drop)]
@@ -24,10 +25,7 @@ impl Offsets {
         ensures answer { numbered result ≡ set_answer c }
         ensures after { self.new.each ≡ (if is_ok result then slice_set self.old.each c offset else self.old.each) }
     {
-        if c >= CHANNELS {
-            return Err(Refusal::NoChannel);
-        }
-        self.each[c as usize] = offset;
+        self.each[channel_index(c)?] = offset;
         Ok(())
     }
 }

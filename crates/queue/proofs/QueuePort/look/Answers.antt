@@ -11,4 +11,4 @@ returns c =
     let k = c.args.c in
     let r = get_or rings k empty_ring in
     let fl : Fits r.last = search rules in
-    rw c.in_ok-i.ensures.0 (ap (λ z. Ok (record { waiting = r.count; last = z })) (same r.last fl) ∙ queued_look xs rings k c.in_ok-i.ensures.1 fl)
+    rw c.in_ok-count.ensures.0 (ap (λ z. Ok (record { waiting = r.count; last = z })) (same r.last fl) ∙ queued_look xs rings k c.in_ok-count.ensures.1 fl)

@@ -12,4 +12,4 @@ returns-clause-after c =
     let r = get_or rings k empty_ring in
     let hl : length rings ≡ 16 = search rules in
     let v = c.args.v in
-    rw c.in_ok-i.ensures.0 (ap (λ z. queued xs (set rings k (record { head = r.head; count = r.count; last = z }))) (same v c.ranges.v) ∙ queued_set xs rings k c.in_ok-i.ensures.1 v c.ranges.v hl)
+    rw c.in_ok-self.ensures.0 (ap (λ z. queued xs (set rings k (record { head = r.head; count = r.count; last = z }))) (same v c.ranges.v) ∙ queued_set xs rings k c.in_ok-self.ensures.1 v c.ranges.v hl)
