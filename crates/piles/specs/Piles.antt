@@ -6,4 +6,4 @@ use Rattle.piles.specs.declared.layer.Layer.{Layer}
 
 -- a trim over a clip over a port
 abbrev pub paired : Layer → Meaning → Meaning
-paired l m = trimmed l.offsets.each (clipped l.bands.lows l.bands.highs m)
+paired l m = trimmed l.offsets.each (clipped l.bands.each m)

@@ -13,7 +13,7 @@ pub type Pair<P> = Trim<Clip<P>>;
 
 /// A trim over a clip over a port.
 pub fn pair<P: Port>(lower: P, layer: Layer) -> Pair<P>
-    ensures means { trimmed result.offsets.each (clipped result.lower.lows result.lower.highs (P.Port.meaning result.lower.lower)) ≡ paired layer (P.Port.meaning lower) }
+    ensures means { trimmed result.offsets.each (clipped result.lower.bands.each (P.Port.meaning result.lower.lower)) ≡ paired layer (P.Port.meaning lower) }
     ensures lent { P.Port.lenders result.lower.lower ≡ P.Port.lenders lower }
 {
     let Layer { offsets, bands } = layer;

@@ -34,6 +34,8 @@ pub fn through_four<P: Port + Drop>(
     exchange(&mut port, c, v, w)
 }
 
+// A pile over a make, owned and lent, is a type of its own: these four state the law of `through_four` at each.
+
 /// Through a pile that owns a queue.
 pub fn over_queue(
     memory: &mut [Sample],

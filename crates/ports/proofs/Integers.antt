@@ -21,10 +21,6 @@ pub stored_same : (z : ℤ) → Fits z → stored z ≡ z
 unfolding stored
 stored_same z fits = grind (arith, ints)
 
--- a sample is an INTEGER
-pub fits_integer : (z : ℤ) → Fits z → Integer z
-fits_integer z fits = (grind (arith, ints), grind (arith, ints))
-
 -- an INTEGER that is narrowed to a sample is the same number
 pub narrowed : (z : ℤ) → Integer z → to_z width (of_z width (to_z w32 (of_z w32 z))) ≡ z
 narrowed z i = omega (arith, ints)

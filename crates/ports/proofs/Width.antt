@@ -15,10 +15,6 @@ Fits z = SFits width z
 pub same : (z : ℤ) → Fits z → to_z width (of_z width z) ≡ z
 same z fits = to_z-of_z width z fits
 
--- and so is one that is widened
-pub widened : (z : ℤ) → Fits z → to_z w32 (of_z w32 (to_z width (of_z width z))) ≡ z
-widened z fits = omega (arith, ints)
-
 -- the difference of two samples fits twice over
 pub difference : (y z : ℤ) → Fits y → Fits z → to_z w64 (of_z w64 (to_z w64 (of_z w64 (to_z width (of_z width y))) -ℤ to_z w64 (of_z w64 (to_z width (of_z width z))))) ≡ y -ℤ z
 difference y z p q = omega (arith, ints)

@@ -7,9 +7,8 @@ use Rattle.ports.specs.Calls.{room, oldest, newer, feed_answer, feed_after, take
 use Rattle.ports.specs.Refusals.{number_of}
 use Rattle.traffic.specs.declared.action.Action.{Action}
 use Rattle.traffic.specs.declared.action.Action.TheVariants.{Feed, Take}
-use Rattle.traffic.specs.declared.action.Outcome.{Outcome}
-use Rattle.traffic.specs.declared.action.Outcome.TheVariants.{Fed, Taken, Nothing, Refused}
-use Rattle.traffic.specs.Runs.{Does, done, Ran, accepted, Conserved}
+use Rattle.traffic.specs.declared.action.Outcome.TheVariants.{Fed, Taken}
+use Rattle.traffic.specs.Runs.{Answered, Does, done, Ran, accepted, Conserved}
 
 never : ◌≡◌ {A = ℕ} 0 1 → ⊥
 never e = omega arith
@@ -18,7 +17,7 @@ no_err : {X : Type 0} {x : X} (n : ℕ) → ◌≡◌ {A = Result X ℕ} (Err n)
 no_err n e = let z : ◌≡◌ {A = ℕ} 0 1 = cc in never z
 
 -- one more action at the end of a run
-pub ran_more : (acts : List Action) (outs : List Outcome) (m m' : Meaning) (c : ℕ) (a : Action) (o : Outcome) → Ran m c acts outs m' → Does m' c a o → Ran m c (acts ++ a ∷ []) (outs ++ o ∷ []) (done m' c a)
+pub ran_more : (acts : List Action) (outs : List Answered) (m m' : Meaning) (c : ℕ) (a : Action) (o : Answered) → Ran m c acts outs m' → Does m' c a o → Ran m c (acts ++ a ∷ []) (outs ++ o ∷ []) (done m' c a)
 ran_more [] [] m m' c a o e d = (subst (λ (n : Meaning). Does n c a o) (sym e) d, ap (λ n. done n c a) e)
 ran_more [] (o' ∷ outs) m m' c a o r d = elim r [ ]
 ran_more (a' ∷ acts) [] m m' c a o r d = elim r [ ]
@@ -64,40 +63,39 @@ take_left m c r none = go (ltb c channels) (m c).waiting refl
     go false zs w e = refl
 
 -- a run conserves samples
-pub run_conserves : (acts : List Action) (outs : List Outcome) (m m' : Meaning) (c : ℕ) → Ran m c acts outs m' → Conserved m c acts outs m'
+pub run_conserves : (acts : List Action) (outs : List Answered) (m m' : Meaning) (c : ℕ) → Ran m c acts outs m' → Conserved m c acts outs m'
 run_conserves [] [] m m' c e = ap (λ n. (n c).waiting) (sym e) ∙ sym (append-nil (m c).waiting)
 run_conserves [] (o ∷ outs) m m' c r = elim r [ ]
 run_conserves (a ∷ acts) [] m m' c r = elim r [ ]
-run_conserves (Feed v ∷ acts) (Fed ∷ outs) m m' c r =
+run_conserves (Feed v ∷ acts) (Ok Fed ∷ outs) m m' c r =
     run_conserves acts outs (feed_after m c v) m' c r.1
     ∙ ap (λ ch. ch.waiting ++ map ch.reading (accepted acts outs)) (feed_fed m c v r.0)
     ∙ append_assoc (m c).waiting ((m c).reading v ∷ []) (map (m c).reading (accepted acts outs))
-run_conserves (Feed v ∷ acts) (Taken z ∷ outs) m m' c r = elim r.0 [ ]
-run_conserves (Feed v ∷ acts) (Nothing ∷ outs) m m' c r = elim r.0 [ ]
-run_conserves (Feed v ∷ acts) (Refused e ∷ outs) m m' c r =
+run_conserves (Feed v ∷ acts) (Ok (Taken o) ∷ outs) m m' c r = elim r.0 [ ]
+run_conserves (Feed v ∷ acts) (Err e ∷ outs) m m' c r =
     run_conserves acts outs (feed_after m c v) m' c r.1
     ∙ ap (λ ch. ch.waiting ++ map ch.reading (accepted acts outs)) (feed_refused m c v (number_of e) r.0)
-run_conserves (Take ∷ acts) (Fed ∷ outs) m m' c r = elim r.0 [ ]
-run_conserves (Take ∷ acts) (Taken z ∷ outs) m m' c r =
+run_conserves (Take ∷ acts) (Ok Fed ∷ outs) m m' c r = elim r.0 [ ]
+run_conserves (Take ∷ acts) (Ok (Taken (Some z)) ∷ outs) m m' c r =
     ap (λ zs. z ∷ zs)
     (run_conserves acts outs (take_after m c) m' c r.1
     ∙ ap (λ ch. ch.waiting ++ map ch.reading (accepted acts outs)) (take_taken m c z r.0).1)
     ∙ ap (λ zs. zs ++ map (m c).reading (accepted acts outs)) (sym (take_taken m c z r.0).0)
-run_conserves (Take ∷ acts) (Nothing ∷ outs) m m' c r =
+run_conserves (Take ∷ acts) (Ok (Taken None) ∷ outs) m m' c r =
     run_conserves acts outs (take_after m c) m' c r.1
     ∙ ap (λ ch. ch.waiting ++ map ch.reading (accepted acts outs)) (take_left m c (Ok None) (λ z e. let n : ◌≡◌ {A = ℕ} 0 1 = cc in never n) r.0)
-run_conserves (Take ∷ acts) (Refused e ∷ outs) m m' c r =
+run_conserves (Take ∷ acts) (Err e ∷ outs) m m' c r =
     run_conserves acts outs (take_after m c) m' c r.1
     ∙ ap (λ ch. ch.waiting ++ map ch.reading (accepted acts outs)) (take_left m c (Err (number_of e)) (λ z h. no_err (number_of e) h) r.0)
 
 -- the next action of a list, with its outcome written beside it
-pub ran_next : (acts : List Action) (outs : List Outcome) (m m₁ m₂ : Meaning) (c i : ℕ) (d : Action) (o : Outcome) → i < length acts → i < length outs → Ran m c (take i acts) (take i outs) m₁ → Does m₁ c (get_or acts i d) o → m₂ ≡ done m₁ c (get_or acts i d) → Ran m c (take (i + 1) acts) (take (i + 1) (set outs i o)) m₂
+pub ran_next : (acts : List Action) (outs : List Answered) (m m₁ m₂ : Meaning) (c i : ℕ) (d : Action) (o : Answered) → i < length acts → i < length outs → Ran m c (take i acts) (take i outs) m₁ → Does m₁ c (get_or acts i d) o → m₂ ≡ done m₁ c (get_or acts i d) → Ran m c (take (i + 1) acts) (take (i + 1) (set outs i o)) m₂
 ran_next acts outs m m₁ m₂ c i d o p q r does after =
     let P : List Action → Type 0 = λ xs. Ran m c xs (take (i + 1) (set outs i o)) m₂ in
-    let Q : List Outcome → Type 0 = λ xs. Ran m c (take i acts ++ get_or acts i d ∷ []) xs m₂ in
+    let Q : List Answered → Type 0 = λ xs. Ran m c (take i acts ++ get_or acts i d ∷ []) xs m₂ in
     let R : Meaning → Type 0 = λ n. Ran m c (take i acts ++ get_or acts i d ∷ []) (take i outs ++ o ∷ []) n in
     subst P (sym (take_more acts i d p)) (subst Q (sym (take_more_set outs i o q)) (subst R (sym after) (ran_more (take i acts) (take i outs) m m₁ c (get_or acts i d) o r does)))
 
 -- what lies past the next outcome
-pub past_next : (outs first : List Outcome) (i : ℕ) (o : Outcome) → drop i outs ≡ drop i first → drop (i + 1) (set outs i o) ≡ drop (i + 1) first
+pub past_next : (outs first : List Answered) (i : ℕ) (o : Answered) → drop i outs ≡ drop i first → drop (i + 1) (set outs i o) ≡ drop (i + 1) first
 past_next outs first i o e = drop-set-lt (i + 1) outs i o (omega arith) ∙ sym (drop-drop 1 i outs) ∙ ap (drop 1) e ∙ drop-drop 1 i first

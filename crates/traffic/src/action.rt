@@ -1,4 +1,3 @@
-use ports::refusal::Refusal;
 use ports::sample::Sample;
 
 /// One thing to do on a channel.
@@ -10,15 +9,11 @@ pub enum Action {
     Take,
 }
 
-/// What came of an action.
+/// What came of an action that the port did not refuse.
 #[derive(Clone, Copy)]
 pub enum Outcome {
     /// The feed was accepted.
     Fed,
-    /// This sample was taken.
-    Taken(Sample),
-    /// No sample waited.
-    Nothing,
-    /// The port refused.
-    Refused(Refusal),
+    /// This sample was taken, or none waited.
+    Taken(Option<Sample>),
 }

@@ -3,25 +3,20 @@ ghost use Rattle.traffic.specs.Runs.{Does, done, Ran, Conserved};
 
 use crate::action::{Action, Outcome};
 use ports::port::Port;
+use ports::refusal::Refusal;
 
 /// Carries out one action on channel `c`.
-fn act<P: Port>(port: &mut P, c: u8, action: Action) -> Outcome
+fn act<P: Port>(port: &mut P, c: u8, action: Action) -> Result<Outcome, Refusal>
     ensures does { Does (P.Port.meaning port.old) c action result }
     ensures after { P.Port.meaning port.new ≡ done (P.Port.meaning port.old) c action }
     ensures lent { P.Port.lenders port.new ≡ P.Port.lenders port.old }
 {
     match action {
-        Action::Feed(v) => match port.feed(c, v) {
-            Ok(()) => Outcome::Fed,
-            Err(why) => Outcome::Refused(why),
-        },
-        Action::Take => match port.take(c) {
-            Ok(got) => match got {
-                Some(z) => Outcome::Taken(z),
-                None => Outcome::Nothing,
-            },
-            Err(why) => Outcome::Refused(why),
-        },
+        Action::Feed(v) => {
+            port.feed(c, v)?;
+            Ok(Outcome::Fed)
+        }
+        Action::Take => Ok(Outcome::Taken(port.take(c)?)),
     }
 }
 
@@ -30,7 +25,7 @@ pub fn carry_out<P: Port>(
     port: &mut P,
     c: u8,
     actions: &[Action],
-    outcomes: &mut [Outcome],
+    outcomes: &mut [Result<Outcome, Refusal>],
 ) -> usize
     ensures count { result ≡ min (length actions.now) (length outcomes.old) }
     ensures ran { Ran (P.Port.meaning port.old) c (take result actions.now) (take result outcomes.new) (P.Port.meaning port.new) }

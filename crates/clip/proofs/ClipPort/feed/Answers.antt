@@ -5,15 +5,10 @@ use Rattle.clip.specs.Clips.{clipped}
 use Rattle.clip.proofs.Clipping.{clipped_fed}
 use Rattle.clip.proofs.ClipPort.feed.Goals as goal
 
-pub returns : goal.returns
-returns g c =
-    let ls = c.args.self.now.lows in
-    let hs = c.args.self.now.highs in
+pub returns-clause-after : goal.returns-clause-after
+returns-clause-after g c =
+    let bands = c.args.self.now.bands.each in
     let m = g.P.Port.meaning c.args.self.now.lower in
     let k = c.args.c in
     let v = c.args.v in
-    record {
-      answer = c.feed.ensures.answer;
-      after = ap (clipped ls hs) (c.feed.ensures.after ∙ ap (feed_after m k) (same v c.ranges.v)) ∙ clipped_fed ls hs m k v;
-      lent = c.feed.ensures.lent;
-    }
+    ap (clipped bands) (c.feed.ensures.after ∙ ap (feed_after m k) (same v c.ranges.v)) ∙ clipped_fed bands m k v

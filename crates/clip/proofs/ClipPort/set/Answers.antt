@@ -1,34 +1,25 @@
-use Rattle.std.proofs.Common.{◌≡◌, get_or, pos, ap, ◌∙◌, to_z, of_z, rules}
+use Rattle.std.proofs.Common.{◌≡◌, ◌<◌, length, get_or, sym, ap, ◌∙◌, to_z, of_z, rules}
+use Rattle.std.proofs.lemmas.List.{get_or_read}
+use Rattle.integer.specs.Ends.{Ends}
 use Rattle.ports.specs.Calls.{set_after}
 use Rattle.ports.specs.Stored.{stored}
-use Rattle.ports.proofs.Integers.{stored_same}
 use Rattle.ports.proofs.Width.{width, Fits, same}
-use Rattle.clip.specs.Clips.{nearest, clipped}
+use Rattle.clip.specs.Clips.{nearest, no_band, clipped}
 use Rattle.clip.proofs.Clipping.{clipped_set}
 use Rattle.clip.proofs.ClipPort.set.Goals as goal
 
-pub returns : goal.returns
-returns g c =
-    let ls = c.args.self.now.lows in
-    let hs = c.args.self.now.highs in
+pub returns-clause-after : goal.returns-clause-after
+returns-clause-after g c =
+    let bands = c.args.self.now.bands.each in
     let m = g.P.Port.meaning c.args.self.now.lower in
     let k = c.args.c in
     let v = c.args.v in
-    let low = get_or ls k (pos 0) in
-    let high = get_or hs k (pos 0) in
-    let inside = c.moved-inside.result in
-    let fl : Fits low = search rules in
-    let fh : Fits high = search rules in
-    let fi : Fits inside = search rules in
-    let el = same low fl in
-    let eh = same high fh in
-    let ev = same v c.ranges.v in
-    let ei = same inside fi in
-    let sl = stored_same low fl in
-    let sh = stored_same high fh in
-    let is : to_z width (of_z width inside) ≡ nearest (stored low) (stored high) v = cc in
-    record {
-      answer = c.set.ensures.answer;
-      after = ap (clipped ls hs) (c.set.ensures.after ∙ ap (set_after m k) is) ∙ clipped_set ls hs m k v;
-      lent = c.set.ensures.lent;
-    }
+    let within : c.in_ok-band.field-0 < length bands = search rules in
+    let read = rw c.in_ok-band.ensures.0 at (get_or_read bands _ _ within c.index-self-branch.is no_band) in
+    let fits : Fits c.nearest.result = search rules in
+    let is : to_z width (of_z width c.nearest.result) ≡ nearest (stored (get_or bands k no_band).low) (stored (get_or bands k no_band).high) v =
+    same c.nearest.result fits ∙ c.nearest.ensures
+    ∙ ap (λ (b : Ends). nearest (stored b.low) (stored b.high) (to_z width (of_z width v))) (sym c.index-self-branch.is ∙ read)
+    ∙ ap (nearest (stored (get_or bands k no_band).low) (stored (get_or bands k no_band).high)) (same v c.ranges.v)
+    in
+    ap (clipped bands) (c.set.ensures.after ∙ ap (set_after m k) is) ∙ clipped_set bands m k v
