@@ -1,5 +1,5 @@
 -- The width of a sample: the one place where the proofs name it.
-use Rattle.std.proofs.Common.{◌≡◌, ℤ, ◌-ℤ◌, arith, w16, w32, w64, SFits, to_z, of_z}
+use Rattle.std.proofs.Common.{◌≡◌, ℤ, ◌-ℤ◌, arith, w16, w64, SFits, to_z, of_z}
 use mir.Syntax.{Width}
 use Rattle.std.proofs.lemmas.Int.{to_z-of_z, ints}
 

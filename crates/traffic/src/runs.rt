@@ -34,9 +34,9 @@ pub fn carry_out<P: Port>(
     ensures lent { P.Port.lenders port.new ≡ P.Port.lenders port.old }
 {
     let count = actions.len().min(outcomes.len());
+    // By index: behind a `zip` with `iter_mut` nothing is known of what was written.
     for i in 0..count {
-        let outcome = act(port, c, actions[i]);
-        outcomes[i] = outcome;
+        outcomes[i] = act(port, c, actions[i]);
     }
     count
 }

@@ -12,9 +12,9 @@ loop-i-preserved g c =
     let p : i < length acts = omega arith in
     let q : i < length outs = omega arith in
     let inv = c.loop-i.invariant in
-    let act = c.act-outcome.ensures in (
-      ran_next acts outs _ _ _ c.args.c i (Feed (pos 0)) c.act-outcome.result p q inv.0 act.does act.after,
-      past_next outs c.args.outcomes.now i c.act-outcome.result inv.1,
+    let act = c.act.ensures in (
+      ran_next acts outs _ _ _ c.args.c i (Feed (pos 0)) c.act.result p q inv.0 act.does act.after,
+      past_next outs c.args.outcomes.now i c.act.result inv.1,
       act.lent ∙ inv.2,
     )
 
