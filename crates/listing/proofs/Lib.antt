@@ -1,3 +1,1 @@
-pub mod Blanks
-pub mod Assembling
 pub mod Returning

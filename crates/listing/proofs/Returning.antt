@@ -1,5 +1,5 @@
 -- Reading what was written.
-use Rattle.std.proofs.Common.{◌≡◌, ℕ, zero, suc, ◌+◌, ◌*◌, ◌/◌, ◌%◌, ◌^◌, ◌<◌, ◌≤◌, Bool, true, false, cond, ◌&&◌, eqb, ltb, List, [], ◌∷◌, ◌++◌, length, get_or, take, drop, Some, None, decimal, sym, refl, ap, ◌∙◌, ap₂, inl, inr, arith}
+use Rattle.std.proofs.Common.{◌≡◌, ℕ, zero, suc, ◌+◌, ◌*◌, ◌/◌, ◌%◌, ◌^◌, ◌<◌, ◌≤◌, Bool, true, false, cond, not, ◌&&◌, eqb, ltb, List, [], ◌∷◌, ◌++◌, length, get_or, take, drop, Some, None, decimal, sym, refl, ap, ◌∙◌, ap₂, inl, inr, arith}
 use Rattle.std.specs.Str.{bytes_eq}
 use Rattle.std.proofs.lemmas.Fmt.{decimal_by_steps, decimal_nonempty}
 use Rattle.std.proofs.lemmas.List.{take_at, drop_at, drop-drop}
@@ -23,7 +23,7 @@ clear_both (x ∷ xs) ys p q = (p.0, clear_both xs ys p.1 q)
 -- the first blank stands behind a word without one
 blank_at : (w rest : List ℕ) → Clear w → blank (w ++ (32 ∷ rest)) ≡ length w
 blank_at [] rest h = refl
-blank_at (c ∷ cs) rest h = ap (λ b. cond b 0 (1 + blank (cs ++ (32 ∷ rest)))) h.0 ∙ (let e = blank_at cs rest h.1 in omega arith)
+blank_at (c ∷ cs) rest h = ap (λ b. cond (not b) (1 + blank (cs ++ (32 ∷ rest))) 0) h.0 ∙ (let e = blank_at cs rest h.1 in omega arith)
 
 first_at : (w rest : List ℕ) → Clear w → first_word (w ++ (32 ∷ rest)) ≡ w
 first_at w rest h = ap (λ k. take k (w ++ (32 ∷ rest))) (blank_at w rest h) ∙ take_at w (32 ∷ rest) (length w) refl

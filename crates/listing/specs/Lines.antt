@@ -1,5 +1,6 @@
 -- Lines of a code list: index, operation, operand and place, parted by one blank each.
 use Rattle.std.specs.Prelude.{◌≡◌, ℕ, ◌+◌, ◌<◌, cond, ◌&&◌, List, [], ◌∷◌, ◌++◌, length, take, drop, Some, None, decimal, Option, ◌==◌, nat_le, nat_lt}
+use Rattle.std.specs.List.{position_or_len}
 use Rattle.vocabulary.specs.Numbers.{digits_value}
 use Rattle.instructions.specs.declared.instruction.Instruction.{Instruction}
 use Rattle.instructions.specs.declared.operation.Operation.{Operation}
@@ -9,8 +10,7 @@ use Rattle.names.specs.Names.{spelt, named}
 
 -- the index of the first blank, or the length where there is none
 abbrev pub blank : List ℕ → ℕ
-blank [] = 0
-blank (c ∷ cs) = cond (c == 32) 0 (1 + blank cs)
+blank l = position_or_len (λ c. c == 32) l
 
 -- what stands before the first blank
 abbrev pub first_word : List ℕ → List ℕ

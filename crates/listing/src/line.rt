@@ -1,5 +1,5 @@
-ghost use Rattle.std.specs.Prelude.{◌≡◌, ℕ, ◌+◌, ◌≤◌, length, IfOk, string_bytes};
-ghost use Rattle.listing.specs.Lines.{blank, first_word, behind, operation, reading, written, number, ReadsBack};
+ghost use Rattle.std.specs.Prelude.{◌≡◌, ◌≤◌, length, IfOk, string_bytes};
+ghost use Rattle.listing.specs.Lines.{blank, first_word, behind, number, unlisted, operation, reading, written, ReadsBack};
 
 use crate::numbers::number;
 use instructions::instruction::Instruction;
@@ -12,68 +12,50 @@ fn blank(line: &[u8]) -> usize
     ensures place { result ≡ blank line.now }
     ensures within { result ≤ length line.now }
 {
-    for (i, c) in line.iter().enumerate() {
-        if *c == b' ' {
-            return i;
-        }
-    }
-    line.len()
+    line.iter().position(|c| *c == b' ').unwrap_or(line.len())
 }
 
-// What stands before the first blank.
-fn first_word(line: &[u8]) -> &[u8]
-    ensures { result.now ≡ first_word line.now }
+// What stands before the first blank, and what stands behind it.
+fn split(line: &[u8]) -> (&[u8], &[u8])
+    ensures word { result.0.now ≡ first_word line.now }
+    ensures rest { result.1.now ≡ behind line.now }
 {
-    &line[0..blank(line)]
+    let blank = blank(line);
+    (&line[..blank], line.get(blank + 1..).unwrap_or(&[]))
 }
 
-// What stands behind the first blank.
-fn behind(line: &[u8]) -> &[u8]
-    ensures { result.now ≡ behind line.now }
+// The operation of the number that a word writes, if the table does not have it.
+fn unlisted(word: &[u8]) -> Option<Operation>
+    ensures { result ≡ unlisted (number word.now) }
 {
-    let next = (blank(line) + 1).min(line.len());
-    &line[next..]
+    let n = u8::try_from(number(word)?).ok()?;
+    (n >= 48).then_some(Operation::Other(n))
 }
 
 // The operation that a word names, by its name or, where the table does not have it, by its number.
 fn operation(word: &[u8]) -> Option<Operation>
     ensures { result ≡ operation word.now }
 {
-    match by_name(word) {
-        Some(operation) => Some(operation),
-        None => match number(word) {
-            Some(n) => {
-                if n >= 48 && n < 256 {
-                    Some(Operation::Other(n as u8))
-                } else {
-                    None
-                }
-            }
-            None => None,
-        },
-    }
+    by_name(word).or_else(|| unlisted(word))
 }
 
 /// The index and the instruction that a line writes, or none where it is malformed.
 pub fn read_line(line: &[u8]) -> Option<(u16, Instruction)>
     ensures { result ≡ reading line.now }
 {
-    let index = number(first_word(line))?;
-    let rest = behind(line);
-    let operation = operation(first_word(rest))?;
-    let rest = behind(rest);
-    let operand = number(first_word(rest))?;
-    match number(behind(rest)) {
-        Some(place) => Some((
-            index,
-            Instruction {
-                operation,
-                operand,
-                place,
-            },
-        )),
-        None => None,
-    }
+    let (index, rest) = split(line);
+    let index = number(index)?;
+    let (name, rest) = split(rest);
+    let operation = operation(name)?;
+    let (operand, place) = split(rest);
+    let operand = number(operand)?;
+    let place = number(place)?;
+    let instruction = Instruction {
+        operation,
+        operand,
+        place,
+    };
+    Some((index, instruction))
 }
 
 /// The line that writes an instruction at an index.
@@ -84,10 +66,7 @@ pub fn write_line(heap: Global, index: u16, i: Instruction) -> Result<String, Al
     let place = i.place;
     match i.operation {
         Operation::Other(n) => format!(in heap; "{index} {n} {operand} {place}"),
-        operation => {
-            let text = name(operation);
-            format!(in heap; "{index} {text} {operand} {place}")
-        }
+        operation => format!(in heap; "{index} {} {operand} {place}", name(operation)),
     }
 }
 

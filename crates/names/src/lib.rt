@@ -68,12 +68,10 @@ pub fn name(operation: Operation) -> &'static str
 fn named_among(operations: &[Operation], word: &[u8]) -> Option<Operation>
     ensures { result ≡ named operations.now word.now }
 {
-    for operation in operations {
-        if name(*operation).as_bytes() == word {
-            return Some(*operation);
-        }
-    }
-    None
+    operations
+        .iter()
+        .find(|operation| name(**operation).as_bytes() == word)
+        .copied()
 }
 
 /// The operation whose name is the word.

@@ -1,5 +1,6 @@
 -- How the symbols of each tag are written, and which words are reserved.
-use Rattle.std.specs.Prelude.{ℕ, cond, List, [], ◌∷◌, codes}
+use Rattle.std.specs.Prelude.{ℕ, List, [], ◌∷◌, codes, unwrap_or}
+use Rattle.std.specs.List.{find}
 use Rattle.std.specs.Str.{bytes_eq}
 use Rattle.vocabulary.specs.declared.tag.Tag.{Tag}
 use Rattle.vocabulary.specs.declared.tag.Tag.TheVariants.{EndOfSource, And, Array, Begin, By, Case, Const, Definition, Div, Do, Else, Elsif, End, Exit, Export, For, From, If, Implementation, Import, In, Loop, Mod, Module, Not, Of, Or, Pointer, Procedure, Qualified, Record, Repeat, Return, Set, Then, To, «Type», Until, Var, While, With, Identifier, Number, Plus, Minus, Times, Equal, NotEqual, Less, AtMost, Greater, AtLeast, Becomes, Period, Range, Comma, Semicolon, Colon, OpenRound, CloseRound, OpenSquare, CloseSquare, OpenCurly, CloseCurly}
@@ -77,8 +78,7 @@ reserved = And ∷ Array ∷ Begin ∷ By ∷ Case ∷ Const ∷ Definition ∷ 
 
 -- the tag among these whose spelling is the word, or an identifier's
 abbrev pub named : List Tag → List ℕ → Tag
-named [] word = Identifier
-named (tag ∷ more) word = cond (bytes_eq (spelt tag) word) tag (named more word)
+named tags word = unwrap_or (find (λ tag. bytes_eq (spelt tag) word) tags) Identifier
 
 -- the tag of a word
 abbrev pub word_tag : List ℕ → Tag

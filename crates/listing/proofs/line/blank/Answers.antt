@@ -1,12 +1,12 @@
-use Rattle.std.proofs.Common.{arith}
-use Rattle.listing.proofs.Blanks.{blank_here, blank_later, blank_none}
+use Rattle.std.proofs.Common.{eqb, arith, rules, tests}
+use Rattle.std.proofs.lemmas.Grind.{common_steps}
+use Rattle.std.proofs.lemmas.Iterator.{YieldsList-from_slice}
+use Rattle.std.proofs.lemmas.Iterator.Search.{position_from_yields_List}
+use Rattle.std.proofs.lemmas.List.Sums.{prefix_len-le-length}
 use Rattle.listing.proofs.line.blank.Goals as goal
 
-pub returns-then-c-eq32 : goal.returns-then-c-eq32
-returns-then-c-eq32 c = record { place = omega (arith, c.loop-i.invariant, blank_here c.args.line.now c.loop-i.i c.loop-i-test.true c.if-c-eq32.true); within = omega arith }
-
-pub loop-i-preserved : goal.loop-i-preserved
-loop-i-preserved c = omega (arith, c.loop-i.invariant, blank_later c.args.line.now c.loop-i.i c.loop-i-test.true c.if-c-eq32.false)
-
-pub returns : goal.returns
-returns c = record { place = omega (arith, c.loop-i.invariant, c.loop-i.auto.i-end, blank_none c.args.line.now c.loop-i.i c.loop-i-test.false); within = omega arith }
+pub returns-clause-place : goal.returns-clause-place
+returns-clause-place c =
+    let line = c.args.line.now in
+    let p = position_from_yields_List (λ b. eqb b 32) _ _ c.position.result c.position.ensures.ran (YieldsList-from_slice line (cc)) (λ x b q k. search (rules, tests)) in
+    grind (arith, common_steps, prefix_len-le-length)
