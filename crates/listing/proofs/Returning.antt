@@ -1,12 +1,14 @@
 -- Reading what was written.
-use Rattle.std.proofs.Common.{◌≡◌, ℕ, zero, suc, ◌+◌, ◌*◌, ◌/◌, ◌%◌, ◌^◌, ◌<◌, ◌≤◌, Bool, true, false, cond, not, ◌&&◌, eqb, ltb, List, [], ◌∷◌, ◌++◌, length, get_or, take, drop, Some, None, decimal, sym, refl, ap, ◌∙◌, ap₂, inl, inr, arith}
+use Rattle.std.proofs.Common.{◌≡◌, ℕ, ◌+◌, ◌*◌, ◌/◌, ◌%◌, ◌^◌, ◌<◌, ◌≤◌, Bool, true, false, cond, not, ◌&&◌, eqb, ltb, List, [], ◌∷◌, ◌++◌, map, length, get_or, take, drop, Some, None, decimal, sym, refl, ap, ◌∙◌, subst, ap₂, inl, inr, arith}
 use Rattle.std.specs.Str.{bytes_eq}
 use Rattle.std.proofs.lemmas.Fmt.{decimal_by_steps, decimal_nonempty}
-use Rattle.std.proofs.lemmas.List.{take_at, drop_at, drop-drop}
-use Rattle.std.proofs.lemmas.Bool.{lt-ltb, ne_eqb, le-leb, cond-true, cond-false, and_parts, ltb-true, cases_lt, true≢false}
+use Rattle.std.proofs.lemmas.List.{take_at, drop_at, drop-drop, get_or-map}
+use Rattle.std.proofs.lemmas.List.Folds.{list_all_at}
+use Rattle.std.specs.List.{list_all}
+use Rattle.std.proofs.lemmas.Bool.{lt-ltb, ne_eqb, le-leb, cond-true, cond-false, and_parts, ltb-true, cases_lt, cases_Bool, le-ltb, true≢false}
 use Rattle.vocabulary.specs.Numbers.{digit_value, digits_value}
 use Rattle.instructions.specs.declared.operation.Operation.{Operation}
-use Rattle.instructions.specs.declared.operation.Operation.TheVariants.{End, Integer, Set, Global, StoreGlobal, Local, StoreLocal, Index, GlobalElement, StoreGlobalElement, LocalElement, StoreLocalElement, Copy, Swap, Add, Subtract, Multiply, Divide, Modulo, Negate, Absolute, Odd, Equal, Unequal, Less, LessEqual, Greater, GreaterEqual, Not, Union, Difference, Intersection, Element, In, Include, Exclude, Jump, JumpIf, JumpUnless, Advance, Channel, Take, Put, Call, Enter, Return, ReturnValue, NoResult, Other}
+use Rattle.instructions.specs.declared.operation.Operation.TheVariants.{End, Other}
 use Rattle.instructions.specs.Numbers.{table, number_of, operation_of}
 use Rattle.names.specs.Names.{spelt, named}
 use Rattle.listing.specs.Lines.{blank, first_word, behind, below, number, unlisted, operation_by, operation, assembled, operation_text, written, ReadsBack}
@@ -72,8 +74,7 @@ lettered [] = false
 lettered (c ∷ cs) = ltb 64 c
 
 abbrev all_lettered : List Operation → Bool
-all_lettered [] = true
-all_lettered (o ∷ os) = lettered (spelt o) && all_lettered os
+all_lettered os = list_all (λ o. lettered (spelt o)) os
 
 abbrev DigitFirst : List ℕ → Type 0
 DigitFirst [] = ⊥
@@ -97,19 +98,6 @@ no_name (o ∷ os) ys l d =
     let p = and_parts (lettered (spelt o)) (all_lettered os) l in
     cond-false _ _ _ (differs (spelt o) ys p.0 d) ∙ no_name os ys p.1 d
 
-lettered_at : (os : List Operation) (i : ℕ) → all_lettered os ≡ true → i < length os → lettered (spelt (get_or os i End)) ≡ true
-lettered_at [] i l h = absurd (omega arith)
-lettered_at (o ∷ os) zero l h = (and_parts (lettered (spelt o)) (all_lettered os) l).0
-lettered_at (o ∷ os) (suc i) l h = lettered_at os i (and_parts (lettered (spelt o)) (all_lettered os) l).1 (omega arith)
-
--- the number of no operation of the table
-unlisted_number : (k : ℕ) → operation_of k ≡ Other k → 48 ≤ k
-unlisted_number k p =
-    elim (cases_lt k 48) [
-      | inl h ↦ absurd (true≢false (sym (lettered_at table k refl h) ∙ ap (λ o. lettered (spelt o)) (sym (cond-true (ltb k 48) (get_or table k End) (Other k) (lt-ltb k 48 h)) ∙ p)))
-      | inr h ↦ h
-    ]
-
 -- a number that the table does not have
 other_back : (k : ℕ) → 48 ≤ k → k < 256 → operation (decimal k) ≡ Some (Other k)
 other_back k l h =
@@ -123,58 +111,46 @@ pub record TextBack (o : Operation) : Type 0 where
   pub clear : Clear (operation_text o)
   pub back : operation (operation_text o) ≡ Some o
 
+-- so it is for every operation of the table, by computation
+abbrev clear : List ℕ → Bool
+clear [] = true
+clear (c ∷ cs) = not (eqb c 32) && clear cs
+
+not_true : (b : Bool) → not b ≡ true → b ≡ false
+not_true true e = sym e
+not_true false e = refl
+
+clear_is : (w : List ℕ) → clear w ≡ true → Clear w
+clear_is [] e = tt
+clear_is (c ∷ cs) e =
+    let p = and_parts (not (eqb c 32)) (clear cs) e in
+    (not_true (eqb c 32) p.0, clear_is cs p.1)
+
+table_clear : list_all (λ o. clear (operation_text o)) table ≡ true
+table_clear = refl
+
+table_back : map (λ o. operation (operation_text o)) table ≡ map Some table
+table_back = refl
+
+text_listed : (k : ℕ) → k < 48 → TextBack (get_or table k End)
+text_listed k h =
+    let all : clear (operation_text (get_or table k End)) ≡ true =
+    elim (cases_Bool (clear (operation_text (get_or table k End)))) [
+      | inl e ↦ e
+      | inr e ↦ absurd (true≢false (sym table_clear ∙ list_all_at (λ o. clear (operation_text o)) table k End h e))
+    ] in
+    record {
+      clear = clear_is (operation_text (get_or table k End)) all;
+      back = sym (get_or-map (λ o. operation (operation_text o)) table k End None h) ∙ ap (λ xs. get_or xs k None) table_back ∙ get_or-map Some table k End None h;
+    }
+
 text_back : (o : Operation) → number_of o < 256 → operation_of (number_of o) ≡ o → TextBack o
-text_back End h p = record { clear = (refl, (refl, (refl, tt))); back = refl }
-text_back Integer h p = record { clear = (refl, (refl, (refl, (refl, (refl, (refl, (refl, tt))))))); back = refl }
-text_back Set h p = record { clear = (refl, (refl, (refl, tt))); back = refl }
-text_back Global h p = record { clear = (refl, (refl, (refl, (refl, (refl, (refl, tt)))))); back = refl }
-text_back StoreGlobal h p = record { clear = (refl, (refl, (refl, (refl, (refl, (refl, (refl, (refl, (refl, (refl, (refl, tt))))))))))); back = refl }
-text_back Local h p = record { clear = (refl, (refl, (refl, (refl, (refl, tt))))); back = refl }
-text_back StoreLocal h p = record { clear = (refl, (refl, (refl, (refl, (refl, (refl, (refl, (refl, (refl, (refl, tt)))))))))); back = refl }
-text_back Index h p = record { clear = (refl, (refl, (refl, (refl, (refl, tt))))); back = refl }
-text_back GlobalElement h p = record { clear = (refl, (refl, (refl, (refl, (refl, (refl, (refl, (refl, (refl, (refl, (refl, (refl, (refl, tt))))))))))))); back = refl }
-text_back StoreGlobalElement h p = record { clear = (refl, (refl, (refl, (refl, (refl, (refl, (refl, (refl, (refl, (refl, (refl, (refl, (refl, (refl, (refl, (refl, (refl, (refl, tt)))))))))))))))))); back = refl }
-text_back LocalElement h p = record { clear = (refl, (refl, (refl, (refl, (refl, (refl, (refl, (refl, (refl, (refl, (refl, (refl, tt)))))))))))); back = refl }
-text_back StoreLocalElement h p = record { clear = (refl, (refl, (refl, (refl, (refl, (refl, (refl, (refl, (refl, (refl, (refl, (refl, (refl, (refl, (refl, (refl, (refl, tt))))))))))))))))); back = refl }
-text_back Copy h p = record { clear = (refl, (refl, (refl, (refl, tt)))); back = refl }
-text_back Swap h p = record { clear = (refl, (refl, (refl, (refl, tt)))); back = refl }
-text_back Add h p = record { clear = (refl, (refl, (refl, tt))); back = refl }
-text_back Subtract h p = record { clear = (refl, (refl, (refl, (refl, (refl, (refl, (refl, (refl, tt)))))))); back = refl }
-text_back Multiply h p = record { clear = (refl, (refl, (refl, (refl, (refl, (refl, (refl, (refl, tt)))))))); back = refl }
-text_back Divide h p = record { clear = (refl, (refl, (refl, (refl, (refl, (refl, tt)))))); back = refl }
-text_back Modulo h p = record { clear = (refl, (refl, (refl, (refl, (refl, (refl, tt)))))); back = refl }
-text_back Negate h p = record { clear = (refl, (refl, (refl, (refl, (refl, (refl, tt)))))); back = refl }
-text_back Absolute h p = record { clear = (refl, (refl, (refl, (refl, (refl, (refl, (refl, (refl, tt)))))))); back = refl }
-text_back Odd h p = record { clear = (refl, (refl, (refl, tt))); back = refl }
-text_back Equal h p = record { clear = (refl, (refl, (refl, (refl, (refl, tt))))); back = refl }
-text_back Unequal h p = record { clear = (refl, (refl, (refl, (refl, (refl, (refl, (refl, tt))))))); back = refl }
-text_back Less h p = record { clear = (refl, (refl, (refl, (refl, tt)))); back = refl }
-text_back LessEqual h p = record { clear = (refl, (refl, (refl, (refl, (refl, (refl, (refl, (refl, (refl, tt))))))))); back = refl }
-text_back Greater h p = record { clear = (refl, (refl, (refl, (refl, (refl, (refl, (refl, tt))))))); back = refl }
-text_back GreaterEqual h p = record { clear = (refl, (refl, (refl, (refl, (refl, (refl, (refl, (refl, (refl, (refl, (refl, (refl, tt)))))))))))); back = refl }
-text_back Not h p = record { clear = (refl, (refl, (refl, tt))); back = refl }
-text_back Union h p = record { clear = (refl, (refl, (refl, (refl, (refl, tt))))); back = refl }
-text_back Difference h p = record { clear = (refl, (refl, (refl, (refl, (refl, (refl, (refl, (refl, (refl, (refl, tt)))))))))); back = refl }
-text_back Intersection h p = record { clear = (refl, (refl, (refl, (refl, (refl, (refl, (refl, (refl, (refl, (refl, (refl, (refl, tt)))))))))))); back = refl }
-text_back Element h p = record { clear = (refl, (refl, (refl, (refl, (refl, (refl, (refl, tt))))))); back = refl }
-text_back In h p = record { clear = (refl, (refl, tt)); back = refl }
-text_back Include h p = record { clear = (refl, (refl, (refl, (refl, (refl, (refl, (refl, tt))))))); back = refl }
-text_back Exclude h p = record { clear = (refl, (refl, (refl, (refl, (refl, (refl, (refl, tt))))))); back = refl }
-text_back Jump h p = record { clear = (refl, (refl, (refl, (refl, tt)))); back = refl }
-text_back JumpIf h p = record { clear = (refl, (refl, (refl, (refl, (refl, (refl, tt)))))); back = refl }
-text_back JumpUnless h p = record { clear = (refl, (refl, (refl, (refl, (refl, (refl, (refl, (refl, (refl, (refl, tt)))))))))); back = refl }
-text_back Advance h p = record { clear = (refl, (refl, (refl, (refl, (refl, (refl, (refl, tt))))))); back = refl }
-text_back Channel h p = record { clear = (refl, (refl, (refl, (refl, (refl, (refl, (refl, tt))))))); back = refl }
-text_back Take h p = record { clear = (refl, (refl, (refl, (refl, tt)))); back = refl }
-text_back Put h p = record { clear = (refl, (refl, (refl, tt))); back = refl }
-text_back Call h p = record { clear = (refl, (refl, (refl, (refl, tt)))); back = refl }
-text_back Enter h p = record { clear = (refl, (refl, (refl, (refl, (refl, tt))))); back = refl }
-text_back Return h p = record { clear = (refl, (refl, (refl, (refl, (refl, (refl, tt)))))); back = refl }
-text_back ReturnValue h p = record { clear = (refl, (refl, (refl, (refl, (refl, (refl, (refl, (refl, (refl, (refl, (refl, tt))))))))))); back = refl }
-text_back NoResult h p = record { clear = (refl, (refl, (refl, (refl, (refl, (refl, (refl, (refl, tt)))))))); back = refl }
-text_back (Other k) h p =
-    let s : k < 65536 = omega arith in
-    record { clear = clear_decimal k (small k s); back = other_back k (unlisted_number k p) h }
+text_back o h p =
+    let k = number_of o in
+    elim (cases_lt k 48) [
+      | inl l ↦ subst TextBack (sym (cond-true (ltb k 48) (get_or table k End) (Other k) (lt-ltb k 48 l)) ∙ p) (text_listed k l)
+      | inr l ↦ subst TextBack (sym (cond-false (ltb k 48) (get_or table k End) (Other k) (le-ltb k 48 l)) ∙ p) (record { clear = clear_decimal k (small k (omega arith)); back = other_back k l h })
+    ]
 
 pub reads_back : ReadsBack
 reads_back n i hn hx hp ho po =
