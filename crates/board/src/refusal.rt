@@ -1,6 +1,8 @@
 ghost use Rattle.std.specs.Prelude.{◌≡◌};
 ghost use Rattle.board.specs.Refusals.{number_of};
 
+use std::fmt;
+
 /// Why a peek was refused. A refusal alters nothing.
 #[derive(Clone, Copy)]
 pub enum Refusal {
@@ -14,5 +16,11 @@ impl Refusal {
         ensures { result ≡ number_of self }
     {
         self as u8
+    }
+}
+
+impl fmt::Display for Refusal {
+    fn fmt<W: fmt::Write>(&self, f: &mut fmt::Formatter<W>) -> fmt::Result {
+        write!(f, "refused {}", self.number())
     }
 }

@@ -11,13 +11,8 @@ pub fn read_code(heap: Global, text: &str) -> Result<Result<Vec<Instruction>, us
             continue;
         }
         match read_line(line.as_bytes()) {
-            Some((index, instruction)) => {
-                if index as usize != code.len() {
-                    return Ok(Err(k.wrapping_add(1)));
-                }
-                code.push(instruction)?;
-            }
-            None => return Ok(Err(k.wrapping_add(1))),
+            Some((index, instruction)) if index as usize == code.len() => code.push(instruction)?,
+            _ => return Ok(Err(k.wrapping_add(1))),
         }
     }
     Ok(Ok(code))

@@ -1,8 +1,9 @@
-ghost use Rattle.std.specs.Prelude.{pos};
-ghost use Rattle.number.specs.Numbers.{Number, whole};
+ghost use Rattle.std.specs.Prelude.{◌≡◌};
+ghost use Rattle.console.specs.Orders.{port_command};
 
 use number::number;
 use script::command::Command;
+use script::line::Line;
 
 /// What a line of a script asks of a board.
 #[derive(Clone, Copy)]
@@ -15,24 +16,24 @@ pub enum Order {
     Peek(u16),
 }
 
-// A number from 0 to 65,535.
-fn count(word: &str) -> Option<u16>
-    ensures { Number (pos 0) (pos 65535) word.now (whole result) }
-{
-    let z = number(word, 0, 65_535)?;
-    Some(z as u16)
-}
-
-impl Order {
-    /// The order that the words of a line write, or none where they write no order.
-    pub fn from_words(words: &[&str]) -> Option<Order> {
-        match words {
-            ["run", budget] => Some(Order::Run(count(budget)?)),
-            ["peek", word] => Some(Order::Peek(count(word)?)),
+impl Line for Order {
+    fn from_words(words: &[&str]) -> Option<Order> {
+        match *words {
+            ["run", budget] => Some(Order::Run(number(budget)?)),
+            ["peek", word] => Some(Order::Peek(number(word)?)),
             _ => match Command::from_words(words)? {
                 Command::Take { .. } | Command::Set { .. } => None,
                 command => Some(Order::Port(command)),
             },
+        }
+    }
+
+    fn command(self) -> Option<Command>
+        ensures { result ≡ port_command self }
+    {
+        match self {
+            Order::Port(command) => Some(command),
+            Order::Run(_) | Order::Peek(_) => None,
         }
     }
 }

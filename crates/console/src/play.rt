@@ -1,80 +1,25 @@
 use crate::code::read_code;
 use crate::order::Order;
-use crate::serve::serve;
+use crate::serve::answer;
 use board::Board;
-use clip::Clip;
 use instructions::instruction::Instruction;
-use latch::Latch;
-use queue::Queue;
-use script::answer::Answer;
-use script::settings::{Base, Settings};
-use std::alloc::AllocError;
+use player::serve::answer_lines;
+use player::setup::{Use, set_up};
+use ports::port::Port;
+use script::line::read_script;
 use std::io;
-use trim::Trim;
 
-/// The samples that the deepest queue has a place for: more would never be used.
-const MOST: u32 = 65_536;
-
-// The orders of a script, a line each, and none for a line that is no order.
-fn read_orders(rt: &HostRuntime, text: &str) -> Result<Vec<Option<Order>>, AllocError> {
-    let mut orders = Vec::new(rt.alloc());
-    for line in text.lines() {
-        if line.starts_with('#') {
-            continue;
-        }
-        let words: Vec<&str> = line.split_whitespace().collect(rt.alloc())?;
-        if !words.is_empty() {
-            orders.push(Order::from_words(&words))?;
-        }
-    }
-    Ok(orders)
+// Answers orders on a board that runs a code list.
+#[derive(Drop)]
+struct Orders<'a> {
+    rt: &'a HostRuntime,
+    code: &'a [Instruction],
 }
 
-// Answers the settings at the script's start, and hands back the rest of the script.
-fn settle<'s>(
-    rt: &HostRuntime,
-    settings: &mut Settings,
-    orders: &'s [Option<Order>],
-) -> io::Result<&'s [Option<Order>]> {
-    for (i, order) in orders.iter().enumerate() {
-        let answer = match *order {
-            None => Answer::Unknown,
-            Some(Order::Port(command)) => match settings.take_in(command) {
-                Some(answer) => answer,
-                None => return Ok(&orders[i..]),
-            },
-            Some(_) => return Ok(&orders[i..]),
-        };
-        println!(rt; "{answer}")?;
-    }
-    Ok(&orders[orders.len()..])
-}
-
-// Answers the rest of the script on a board, over a trim over a clip over the port that was chosen.
-fn run(
-    rt: &HostRuntime,
-    settings: Settings,
-    code: &[Instruction],
-    orders: &[Option<Order>],
-) -> io::Result<()> {
-    let Settings {
-        base,
-        offsets,
-        bands,
-        ..
-    } = settings;
-    match base {
-        Base::Queue(samples) => {
-            let mut memory = vec![in rt.alloc(); 0; samples.min(MOST) as usize]?;
-            let mut port = Trim::new(Clip::new(Queue::new(&mut memory), bands), offsets);
-            let mut board = Board::load(code, &mut port);
-            serve(rt, &mut board, orders)
-        }
-        Base::Latch => {
-            let mut port = Trim::new(Clip::new(Latch::new(), bands), offsets);
-            let mut board = Board::load(code, &mut port);
-            serve(rt, &mut board, orders)
-        }
+impl Use<Order> for Orders<'_> {
+    fn on<P: Port + Drop>(self, port: P, rest: &[Option<Order>]) -> io::Result<()> {
+        let mut board = Board::load(self.code, port);
+        answer_lines(self.rt, rest, |order| answer(&mut board, order))
     }
 }
 
@@ -84,8 +29,6 @@ pub fn play(rt: &HostRuntime, code: &str, script: &str) -> io::Result<()> {
         Ok(code) => code,
         Err(line) => return println!(rt; "bad line {line}"),
     };
-    let orders = read_orders(rt, script)?;
-    let mut settings = Settings::new();
-    let rest = settle(rt, &mut settings, &orders)?;
-    run(rt, settings, &code, rest)
+    let script: Vec<Option<Order>> = read_script(rt.alloc(), script.as_bytes())?;
+    set_up(rt, &script, Orders { rt, code: &code })
 }

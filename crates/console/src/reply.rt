@@ -1,18 +1,17 @@
 use instructions::answers::{Outcome, Ran};
-use script::answer::Answer;
+use ports::refusal::Refusal;
+use script::answer::{Answer, Told};
 use std::fmt;
 
 /// The answer to a line of a script.
 #[derive(Clone, Copy)]
 pub enum Reply {
     /// What a port answers.
-    Port(Answer),
+    Port(Result<Answer, Refusal>),
     /// What a run came to.
     Ran(Ran),
     /// A global word.
-    Word(i32),
-    /// The number of a refusal.
-    Refused(u8),
+    Word(Result<i32, board::refusal::Refusal>),
 }
 
 fn show_run<W: fmt::Write>(ran: Ran, f: &mut fmt::Formatter<W>) -> fmt::Result {
@@ -35,10 +34,9 @@ fn show_run<W: fmt::Write>(ran: Ran, f: &mut fmt::Formatter<W>) -> fmt::Result {
 impl fmt::Display for Reply {
     fn fmt<W: fmt::Write>(&self, f: &mut fmt::Formatter<W>) -> fmt::Result {
         match *self {
-            Reply::Port(answer) => write!(f, "{answer}"),
+            Reply::Port(answer) => write!(f, "{}", Told(answer)),
             Reply::Ran(ran) => show_run(ran, f),
-            Reply::Word(word) => write!(f, "{word}"),
-            Reply::Refused(number) => write!(f, "refused {number}"),
+            Reply::Word(word) => write!(f, "{}", Told(word)),
         }
     }
 }

@@ -1,22 +1,23 @@
 -- What a port answers to a command of a script, and what it means afterwards.
+use Rattle.std.specs.Prelude.{ℕ, Ok, Result}
 use Rattle.ports.specs.Calls.{feed_answer, feed_after, take_answer, take_after, set_answer, set_after, look_answer}
 use Rattle.ports.specs.Channels.{Meaning}
 use Rattle.script.specs.declared.answer.Answer.{Answer}
-use Rattle.script.specs.declared.answer.Answer.TheVariants.{Unknown}
+use Rattle.script.specs.declared.answer.Answer.TheVariants.{Done, Fed, Seen, Taken, Unknown}
 use Rattle.script.specs.declared.command.Command.{Command}
 use Rattle.script.specs.declared.command.Command.TheVariants.{Queue, Latch, Trim, Clip, Feed, Look, Take, Set}
-use Rattle.script.specs.Told.{told_of, told_feed, told_take, told_look}
+use Rattle.script.specs.Told.{told}
 
 -- the answer: a setting comes too late
-abbrev pub reply : Meaning → Command → Answer
-reply m (Queue l) = Unknown
-reply m Latch = Unknown
-reply m (Trim c o) = Unknown
-reply m (Clip c a b) = Unknown
-reply m (Feed c v) = told_feed (feed_answer m c)
-reply m (Look c) = told_look (look_answer m c)
-reply m (Take c) = told_take (take_answer m c)
-reply m (Set c v) = told_of (set_answer c)
+abbrev pub reply : Meaning → Command → Result Answer ℕ
+reply m (Queue l) = Ok Unknown
+reply m Latch = Ok Unknown
+reply m (Trim c o) = Ok Unknown
+reply m (Clip c a b) = Ok Unknown
+reply m (Feed c v) = told (λ _. Fed) (feed_answer m c)
+reply m (Look c) = told Seen (look_answer m c)
+reply m (Take c) = told Taken (take_answer m c)
+reply m (Set c v) = told (λ _. Done) (set_answer c)
 
 -- the meaning
 abbrev pub replied : Meaning → Command → Meaning

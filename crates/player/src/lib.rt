@@ -1,6 +1,6 @@
 //! Plays a script on a port: the port is set up, then used.
 #![tactic(auto)]
 
-pub mod lines;
 pub mod play;
 pub mod serve;
+pub mod setup;

@@ -1,51 +1,48 @@
 ghost use Rattle.std.specs.Prelude.{◌≡◌};
 ghost use Rattle.player.specs.Replies.{reply, replied};
+ghost use Rattle.ports.specs.Refusals.{numbered};
 
 use ports::port::Port;
+use ports::refusal::Refusal;
 use script::answer::Answer;
 use script::command::Command;
-use script::line::Line;
-use std::io;
+use std::{fmt, io};
 
 /// The answer of a port to a command.
-fn answer<P: Port>(port: &mut P, command: Command) -> Answer
-    ensures answer { result ≡ reply (P.Port.meaning port.old) command }
+pub(crate) fn answer<P: Port>(port: &mut P, command: Command) -> Result<Answer, Refusal>
+    ensures answer { numbered result ≡ reply (P.Port.meaning port.old) command }
     ensures after { P.Port.meaning port.new ≡ replied (P.Port.meaning port.old) command }
     ensures lent { P.Port.lenders port.new ≡ P.Port.lenders port.old }
 {
     match command {
-        Command::Feed { channel, value } => match port.feed(channel, value) {
-            Ok(()) => Answer::Fed,
-            Err(why) => Answer::Refused(why.number()),
-        },
-        Command::Look { channel } => match port.look(channel) {
-            Ok(seen) => Answer::Seen(seen),
-            Err(why) => Answer::Refused(why.number()),
-        },
-        Command::Take { channel } => match port.take(channel) {
-            Ok(got) => match got {
-                Some(z) => Answer::Taken(z),
-                None => Answer::Nothing,
-            },
-            Err(why) => Answer::Refused(why.number()),
-        },
-        Command::Set { channel, value } => match port.set(channel, value) {
-            Ok(()) => Answer::Done,
-            Err(why) => Answer::Refused(why.number()),
-        },
-        _ => Answer::Unknown,
+        Command::Feed { channel, value } => {
+            port.feed(channel, value)?;
+            Ok(Answer::Fed)
+        }
+        Command::Look { channel } => Ok(Answer::Seen(port.look(channel)?)),
+        Command::Take { channel } => Ok(Answer::Taken(port.take(channel)?)),
+        Command::Set { channel, value } => {
+            port.set(channel, value)?;
+            Ok(Answer::Done)
+        }
+        _ => Ok(Answer::Unknown),
     }
 }
 
-/// Answers the lines of a script on a port.
-pub fn serve<P: Port>(rt: &HostRuntime, port: &mut P, script: &[Line]) -> io::Result<()> {
+/// Answers each line of a script.
+pub fn answer_lines<L: Copy, A: fmt::Display + Drop, F: FnMut(L) -> A>(
+    rt: &HostRuntime,
+    script: &[Option<L>],
+    mut answer: F,
+) -> io::Result<()>
+    requires { F.IsAlwaysCallable answer }
+{
     for line in script {
-        let reply = match *line {
-            Line::Command(command) => answer(port, command),
-            Line::Unknown => Answer::Unknown,
-            Line::Silent => continue,
+        let Some(line) = *line else {
+            println!(rt; "{}", Answer::Unknown)?;
+            continue;
         };
-        println!(rt; "{reply}")?;
+        println!(rt; "{}", answer(line))?;
     }
     Ok(())
 }

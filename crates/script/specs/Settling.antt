@@ -1,5 +1,6 @@
 -- What a command does to the settings of a port.
-use Rattle.std.specs.Prelude.{Bool, false, cond, List, ℤ, Some, None, Option, int_le, nat_lt, slice_set}
+use Rattle.std.specs.Prelude.{ℕ, cond, List, ℤ, Some, None, Ok, Option, Result, is_none, unwrap_or, int_le, nat_lt, slice_set}
+use Rattle.integer.specs.Ends.{Ends}
 use Rattle.clip.specs.Clips.{band_answer}
 use Rattle.ports.specs.Calls.{set_answer}
 use Rattle.ports.specs.Channels.{channels}
@@ -9,59 +10,52 @@ use Rattle.script.specs.declared.command.Command.{Command}
 use Rattle.script.specs.declared.command.Command.TheVariants as command
 use Rattle.script.specs.declared.settings.Base.{Base}
 use Rattle.script.specs.declared.settings.Base.TheVariants as base
-use Rattle.script.specs.Told.{told_of}
+use Rattle.script.specs.Told.{told}
 
--- the answer to a setting, and none to any other command; the port is chosen only while the settings are fresh
-abbrev pub setting_answer : Bool → Command → Option Answer
-setting_answer fresh (command.Queue l) = Some (cond fresh Done Unknown)
-setting_answer fresh command.Latch = Some (cond fresh Done Unknown)
-setting_answer fresh (command.Trim c o) = Some (told_of (set_answer c))
-setting_answer fresh (command.Clip c a b) = Some (told_of (band_answer c a b))
-setting_answer fresh (command.Feed c v) = None
-setting_answer fresh (command.Look c) = None
-setting_answer fresh (command.Take c) = None
-setting_answer fresh (command.Set c v) = None
+-- the port under all: a queue over 1,600 samples where no setting has come
+abbrev pub base_of : Option Base → Base
+base_of b = unwrap_or b (base.Queue 1600)
 
--- the port under all
-abbrev pub base_after : Bool → Base → Command → Base
-base_after fresh b (command.Queue l) = cond fresh (base.Queue l) b
-base_after fresh b command.Latch = cond fresh base.Latch b
-base_after fresh b (command.Trim c o) = b
-base_after fresh b (command.Clip c a h) = b
-base_after fresh b (command.Feed c v) = b
-base_after fresh b (command.Look c) = b
-base_after fresh b (command.Take c) = b
-base_after fresh b (command.Set c v) = b
+-- the answer to a setting, and none to any other command; the port is chosen only while no setting has come
+abbrev pub setting_answer : Option Base → Command → Option (Result Answer ℕ)
+setting_answer b (command.Queue l) = Some (Ok (cond (is_none b) Done Unknown))
+setting_answer b command.Latch = Some (Ok (cond (is_none b) Done Unknown))
+setting_answer b (command.Trim c o) = Some (told (λ _. Done) (set_answer c))
+setting_answer b (command.Clip c l h) = Some (told (λ _. Done) (band_answer c l h))
+setting_answer b (command.Feed c v) = None
+setting_answer b (command.Look c) = None
+setting_answer b (command.Take c) = None
+setting_answer b (command.Set c v) = None
+
+-- the port under all, once a setting has come
+abbrev pub base_after : Option Base → Command → Option Base
+base_after b (command.Queue l) = Some (unwrap_or b (base.Queue l))
+base_after b command.Latch = Some (unwrap_or b base.Latch)
+base_after b (command.Trim c o) = Some (base_of b)
+base_after b (command.Clip c l h) = Some (base_of b)
+base_after b (command.Feed c v) = b
+base_after b (command.Look c) = b
+base_after b (command.Take c) = b
+base_after b (command.Set c v) = b
 
 -- the offsets
 abbrev pub offsets_after : List ℤ → Command → List ℤ
 offsets_after os (command.Queue l) = os
 offsets_after os command.Latch = os
 offsets_after os (command.Trim c o) = cond (nat_lt c channels) (slice_set os c o) os
-offsets_after os (command.Clip c a b) = os
+offsets_after os (command.Clip c l h) = os
 offsets_after os (command.Feed c v) = os
 offsets_after os (command.Look c) = os
 offsets_after os (command.Take c) = os
 offsets_after os (command.Set c v) = os
 
--- one end of each band: which one is set is for pick to say
-abbrev pub ends_after : (ℤ → ℤ → ℤ) → List ℤ → Command → List ℤ
-ends_after pick es (command.Queue l) = es
-ends_after pick es command.Latch = es
-ends_after pick es (command.Trim c o) = es
-ends_after pick es (command.Clip c a b) = cond (nat_lt c channels) (cond (int_le a b) (slice_set es c (pick a b)) es) es
-ends_after pick es (command.Feed c v) = es
-ends_after pick es (command.Look c) = es
-ends_after pick es (command.Take c) = es
-ends_after pick es (command.Set c v) = es
-
--- whether the settings are still fresh: no setting has come
-abbrev pub fresh_after : Bool → Command → Bool
-fresh_after fresh (command.Queue l) = false
-fresh_after fresh command.Latch = false
-fresh_after fresh (command.Trim c o) = false
-fresh_after fresh (command.Clip c a b) = false
-fresh_after fresh (command.Feed c v) = fresh
-fresh_after fresh (command.Look c) = fresh
-fresh_after fresh (command.Take c) = fresh
-fresh_after fresh (command.Set c v) = fresh
+-- the bands
+abbrev pub bands_after : List Ends → Command → List Ends
+bands_after bs (command.Queue l) = bs
+bands_after bs command.Latch = bs
+bands_after bs (command.Trim c o) = bs
+bands_after bs (command.Clip c l h) = cond (nat_lt c channels) (cond (int_le l h) (slice_set bs c (record { low = l; high = h })) bs) bs
+bands_after bs (command.Feed c v) = bs
+bands_after bs (command.Look c) = bs
+bands_after bs (command.Take c) = bs
+bands_after bs (command.Set c v) = bs

@@ -2,39 +2,43 @@ use ports::sample::Sample;
 use ports::seen::Seen;
 use std::fmt;
 
-/// The answer to a line of a script.
+/// The answer to a line of a script that was not refused.
 #[derive(Clone, Copy)]
 pub enum Answer {
     /// It was done.
     Done,
     /// The feed was accepted.
     Fed,
-    /// It was refused for the reason of this number, and nothing was altered.
-    Refused(u8),
     /// What a look saw.
     Seen(Seen),
-    /// The sample that was taken.
-    Taken(Sample),
-    /// No sample waited.
-    Nothing,
+    /// The sample that was taken, or none where none waited.
+    Taken(Option<Sample>),
     /// No command, or none that serves now; nothing was altered.
     Unknown,
 }
 
 impl fmt::Display for Answer {
     fn fmt<W: fmt::Write>(&self, f: &mut fmt::Formatter<W>) -> fmt::Result {
-        match *self {
+        match self {
             Answer::Done => write!(f, "ok"),
             Answer::Fed => write!(f, "fed"),
-            Answer::Refused(number) => write!(f, "refused {number}"),
-            Answer::Seen(seen) => {
-                let waiting = seen.waiting;
-                let last = seen.last;
-                write!(f, "{waiting} {last}")
-            }
-            Answer::Taken(z) => write!(f, "{z}"),
-            Answer::Nothing => write!(f, "none"),
+            Answer::Seen(seen) => write!(f, "{seen}"),
+            Answer::Taken(Some(z)) => write!(f, "{z}"),
+            Answer::Taken(None) => write!(f, "none"),
             Answer::Unknown => write!(f, "unknown command"),
+        }
+    }
+}
+
+/// What came of a call, to be printed: its value, or why it was refused.
+#[derive(Drop)]
+pub struct Told<T, E>(pub Result<T, E>);
+
+impl<T: fmt::Display, E: fmt::Display> fmt::Display for Told<T, E> {
+    fn fmt<W: fmt::Write>(&self, f: &mut fmt::Formatter<W>) -> fmt::Result {
+        match &self.0 {
+            Ok(value) => write!(f, "{value}"),
+            Err(why) => write!(f, "{why}"),
         }
     }
 }

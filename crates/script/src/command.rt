@@ -1,4 +1,7 @@
-use number::{channel, sample, size};
+ghost use Rattle.std.specs.Prelude.{◌≡◌};
+
+use crate::line::Line;
+use number::number;
 use ports::sample::Sample;
 
 /// What a line of a script asks.
@@ -39,52 +42,41 @@ pub enum Command {
     },
 }
 
-impl Command {
-    /// The command that the words of a line write, or none where they write no command.
-    pub fn from_words(words: &[&str]) -> Option<Command> {
-        match words {
-            [name, a] => with_one(name, a),
-            [name, a, b] => with_two(name, a, b),
-            ["clip", c, low, high] => Some(Command::Clip {
-                channel: channel(c)?,
-                low: sample(low)?,
-                high: sample(high)?,
+impl Line for Command {
+    fn from_words(words: &[&str]) -> Option<Command> {
+        match *words {
+            ["port", "queue", samples] => Some(Command::Queue(number(samples)?)),
+            ["port", "latch"] => Some(Command::Latch),
+            ["trim", channel, offset] => Some(Command::Trim {
+                channel: number(channel)?,
+                offset: number(offset)?,
+            }),
+            ["clip", channel, low, high] => Some(Command::Clip {
+                channel: number(channel)?,
+                low: number(low)?,
+                high: number(high)?,
+            }),
+            ["feed", channel, value] => Some(Command::Feed {
+                channel: number(channel)?,
+                value: number(value)?,
+            }),
+            ["look", channel] => Some(Command::Look {
+                channel: number(channel)?,
+            }),
+            ["take", channel] => Some(Command::Take {
+                channel: number(channel)?,
+            }),
+            ["set", channel, value] => Some(Command::Set {
+                channel: number(channel)?,
+                value: number(value)?,
             }),
             _ => None,
         }
     }
-}
 
-/// A command with one argument.
-fn with_one(name: &str, a: &str) -> Option<Command> {
-    match name {
-        "port" if a == "latch" => Some(Command::Latch),
-        "look" => Some(Command::Look {
-            channel: channel(a)?,
-        }),
-        "take" => Some(Command::Take {
-            channel: channel(a)?,
-        }),
-        _ => None,
-    }
-}
-
-/// A command with two arguments.
-fn with_two(name: &str, a: &str, b: &str) -> Option<Command> {
-    match name {
-        "port" if a == "queue" => Some(Command::Queue(size(b)?)),
-        "trim" => Some(Command::Trim {
-            channel: channel(a)?,
-            offset: sample(b)?,
-        }),
-        "feed" => Some(Command::Feed {
-            channel: channel(a)?,
-            value: sample(b)?,
-        }),
-        "set" => Some(Command::Set {
-            channel: channel(a)?,
-            value: sample(b)?,
-        }),
-        _ => None,
+    fn command(self) -> Option<Command>
+        ensures { result ≡ Some self }
+    {
+        Some(self)
     }
 }

@@ -1,0 +1,44 @@
+// Each type that a script has, with the ends that it is read between.
+ghost use Rattle.std.specs.Prelude.{pos};
+ghost use Rattle.integer.specs.Ends.{integer};
+ghost use Rattle.number.specs.Numbers.{Number, whole};
+
+use crate::number;
+use ports::sample::Sample;
+
+fn sample(word: &str) -> Option<Sample>
+    ensures { Number integer.low integer.high word.now result }
+{
+    number(word)
+}
+
+fn channel(word: &str) -> Option<u8>
+    ensures { Number (pos 0) (pos 255) word.now (whole result) }
+{
+    number(word)
+}
+
+fn count(word: &str) -> Option<u16>
+    ensures { Number (pos 0) (pos 65535) word.now (whole result) }
+{
+    number(word)
+}
+
+fn size(word: &str) -> Option<u32>
+    ensures { Number (pos 0) (pos 4294967295) word.now (whole result) }
+{
+    number(word)
+}
+
+#[test]
+fn ends_of_types(rt: HostRuntime) {
+    assert_eq!(rt; sample("-32768"), Some(-32768));
+    assert_eq!(rt; sample("-32769"), None);
+    assert_eq!(rt; channel("+255"), Some(255));
+    assert_eq!(rt; channel("-0"), Some(0));
+    assert_eq!(rt; channel("256"), None);
+    assert_eq!(rt; count("65535"), Some(65_535));
+    assert_eq!(rt; count("-1"), None);
+    assert_eq!(rt; size("4294967295"), Some(4_294_967_295));
+    assert_eq!(rt; size("12x"), None);
+}
