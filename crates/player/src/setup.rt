@@ -26,15 +26,10 @@ fn settle<'s, L: Line>(
     for (i, line) in script.iter().enumerate() {
         let answer = match *line {
             None => Ok(Answer::Unknown),
-            Some(line) => {
-                let Some(command) = line.command() else {
-                    return Ok(&script[i..]);
-                };
-                let Some(answer) = settings.take_in(command) else {
-                    return Ok(&script[i..]);
-                };
-                answer
-            }
+            Some(line) => match line.command().and_then(|command| settings.take_in(command)) {
+                Some(answer) => answer,
+                None => return Ok(&script[i..]),
+            },
         };
         println!(rt; "{}", Told(answer))?;
     }
