@@ -35,9 +35,6 @@ module _ (os : List ℤ) (m : Meaning) (c : ℕ) where
   pub trimmed_fed : (v : ℤ) → trimmed os (feed_after m c v) ≡ feed_after (trimmed os m) c v
   trimmed_fed v = layer_changed by m c (fed (m c) v) (fed (trim_channel o (m c)) v) (fed_trimmed o (m c) v)
 
-  pub trimmed_feed : feed_answer m c ≡ feed_answer (trimmed os m) c
-  trimmed_feed = rw (length-map (m c).waiting (less o))
-
   pub trimmed_took : trimmed os (take_after m c) ≡ take_after (trimmed os m) c
   trimmed_took = layer_changed by m c (holding (m c) (newer (m c).waiting)) _ (ap (holding (trim_channel o (m c))) (newer_trimmed o (m c).waiting))
 

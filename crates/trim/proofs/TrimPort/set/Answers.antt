@@ -5,14 +5,10 @@ use Rattle.trim.specs.Trims.{trimmed}
 use Rattle.trim.proofs.Trimming.{trimmed_set}
 use Rattle.trim.proofs.TrimPort.set.Goals as goal
 
-pub returns : goal.returns
-returns g c =
+pub returns-clause-after : goal.returns-clause-after
+returns-clause-after g c =
     let os = c.args.self.now.offsets.each in
     let m = g.P.Port.meaning c.args.self.now.lower in
     let k = c.args.c in
     let v = c.args.v in
-    record {
-      answer = c.set.ensures.answer;
-      after = ap (trimmed os) (c.set.ensures.after ∙ ap (set_after m k) (same v c.ranges.v)) ∙ trimmed_set os m k v;
-      lent = c.set.ensures.lent;
-    }
+    ap (trimmed os) (c.set.ensures.after ∙ ap (set_after m k) (same v c.ranges.v)) ∙ trimmed_set os m k v
