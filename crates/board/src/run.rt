@@ -39,7 +39,7 @@ impl<'a, P: Port> Board<'a, P> {
         ensures blank { view P.Port.meaning result ≡ loaded code.now (P.Port.meaning port) }
         ensures lent { P.Port.lenders result.port ≡ P.Port.lenders port }
     {
-        let code = &code[0..code.len().min(LONGEST)];
+        let code = &code[..LONGEST.min(code.len())];
         Board {
             code,
             memory: Memory::new(),
@@ -109,6 +109,7 @@ impl<'a, P: Port> Board<'a, P> {
         ensures gone { tally (run budget (view P.Port.meaning self.old)) ≡ ran result (view P.Port.meaning self.new) }
         ensures lent { P.Port.lenders self.new.port ≡ P.Port.lenders self.old.port }
     {
+        // A turn executes a stretch of any length, so no range counts the turns.
         let mut executed = 0;
         let mut events = 0;
         while executed < budget {

@@ -1,5 +1,5 @@
-//! The operations that calculate, each over the function that it leaves the value of.
+//! The operations that calculate, over the function that each applies to the newest words.
 #![tactic(auto)]
 
-pub mod applied;
+pub mod apply;
 pub mod words;

@@ -110,6 +110,7 @@ impl fmt::Display for Outcome {
 }
 
 /// What one instruction asks of whoever holds the port.
+// Four answers of one kind, and no Option of three: that it was executed is an answer too.
 #[derive(Clone, Copy, PartialEq, Eq, Debug)]
 pub enum Act {
     /// Nothing: it was executed.
@@ -123,6 +124,7 @@ pub enum Act {
 }
 
 /// What one step comes to.
+// Three answers of one kind, and no Result: that nothing more is executed is no failure.
 #[derive(Clone, Copy, PartialEq, Eq, Debug)]
 pub enum Step {
     /// An instruction was executed.

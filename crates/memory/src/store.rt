@@ -3,6 +3,7 @@ use instructions::answers::Status;
 use std::marker::Model;
 
 /// Global words, the words of all open activations one after the other, the waiting activations, the next index and the status.
+// Lengths stand beside the arrays, since a board works in fixed memory without a heap.
 #[derive(Drop)]
 pub struct Memory {
     pub(crate) globals: [i32; 1024],

@@ -1,7 +1,7 @@
 ghost use Rattle.instructions.specs.Moves.{Does};
 ghost use Rattle.instructions.specs.Table.{obeyed};
 
-use calculation::applied::{binary, check, combine, relate, test, unary};
+use calculation::apply::{binary, check, combine, relate, test, unary};
 use control::flow::{self, is_channel};
 use instructions::answers::{Fault, Trap};
 use instructions::area::Area;

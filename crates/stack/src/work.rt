@@ -34,23 +34,14 @@ impl<'a, T: Copy> Stack<'a, T> {
     pub fn get(&self, i: usize) -> Option<T>
         ensures { MatchOption result (length (items self.now) ≤ i) (λ x. (i < length (items self.now)) × (x ≡ slice_index_or (items self.now) i x)) }
     {
-        if i < self.len {
-            let slots: &[T] = self.slots;
-            Some(slots[i])
-        } else {
-            None
-        }
+        self.items().get(i).copied()
     }
 
     /// The newest item, or none where there is none.
     pub fn top(&self) -> Option<T>
         ensures { MatchOption result (items self.now ≡ []) (λ x. (0 < length (items self.now)) × (x ≡ slice_index_or (items self.now) (length (items self.now) - 1) x)) }
     {
-        if self.len == 0 {
-            None
-        } else {
-            self.get(self.len - 1)
-        }
+        self.items().last().copied()
     }
 
     /// Puts an item on top, or refuses and alters nothing where every slot is taken.
@@ -71,10 +62,7 @@ impl<'a, T: Copy> Stack<'a, T> {
         ensures held { MatchOption result ((items self.old ≡ []) × Kept self.old self.new) (λ x. Popped x self.old self.new) }
         ensures lent { self.new.slots.ghost_name ≡ self.old.slots.ghost_name }
     {
-        if self.len == 0 {
-            return None;
-        }
-        self.len -= 1;
+        self.len = self.len.checked_sub(1)?;
         Some(self.slots[self.len])
     }
 
@@ -82,6 +70,6 @@ impl<'a, T: Copy> Stack<'a, T> {
     pub fn items(&self) -> &[T]
         ensures { result.now ≡ items self.now }
     {
-        &self.slots[0..self.len]
+        &self.slots[..self.len]
     }
 }

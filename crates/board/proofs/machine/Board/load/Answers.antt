@@ -1,8 +1,6 @@
-use Rattle.std.proofs.Common.{◌≡◌, ◌-◌, min, length, refl, ap₂, arith}
-use Rattle.board.proofs.Showing.{take_least}
+use Rattle.std.proofs.Common.{take, ap, ◌∙◌, ap₂}
+use Rattle.std.proofs.lemmas.List.{take_min}
 use Rattle.board.proofs.machine.Board.load.Goals as goal
 
-pub returns : goal.returns
-returns g c =
-    let short : c.min.result - 0 ≡ min (length c.args.code.now) 4096 = omega arith in
-    record { blank = ap₂ (λ x y. record { code = x; state = y; port = g.P.Port.meaning c.args.port }) (take_least 4096 (c.min.result - 0) c.args.code.now short) c.new.ensures; lent = refl }
+pub returns-clause-blank : goal.returns-clause-blank
+returns-clause-blank g c = ap₂ (λ x y. record { code = x; state = y; port = g.P.Port.meaning c.args.port }) (ap (λ n. take n c.args.code.now) c.min.ensures ∙ take_min 4096 c.args.code.now) c.new.ensures

@@ -30,8 +30,8 @@ loop-executed-preserved g c =
     let w = event c.args.budget c.loop-executed.executed c.loop-executed.events c.steps-stretch.result.executed c.steps-stretch.result.act _ _ _ _ c.loop-executed.invariant.2 c.loop-executed-test.true c.steps-stretch.ensures.gone c.in-Event.ensures.gone in
     (omega (arith, c.loop-executed.invariant.0), omega (arith, w.0), w.1, c.meet.ensures.lent ∙ c.loop-executed.invariant.3)
 
-pub returns-in-Stopped : goal.returns-in-Stopped
-returns-in-Stopped g c = record { gone = stopped c.args.budget c.loop-executed.executed c.loop-executed.events c.steps-stretch.result.executed c.steps-stretch.result.act _ _ _ _ c.loop-executed.invariant.2 c.loop-executed-test.true c.steps-stretch.ensures.gone c.in-Stopped.outcome c.in-Stopped.ensures.gone; lent = c.meet.ensures.lent ∙ c.loop-executed.invariant.3 }
+pub returns-in-Stopped-clause-gone : goal.returns-in-Stopped-clause-gone
+returns-in-Stopped-clause-gone g c = stopped c.args.budget c.loop-executed.executed c.loop-executed.events c.steps-stretch.result.executed c.steps-stretch.result.act _ _ _ _ c.loop-executed.invariant.2 c.loop-executed-test.true c.steps-stretch.ensures.gone c.in-Stopped.outcome c.in-Stopped.ensures.gone
 
-pub returns : goal.returns
-returns g c = record { gone = turned_out c.args.budget c.loop-executed.executed c.loop-executed.executed c.loop-executed.events _ _ _ c.loop-executed.invariant.2 c.loop-executed-test.false (c.from.ensures ∙ ap spent c.status.ensures); lent = c.loop-executed.invariant.3 }
+pub returns-clause-gone : goal.returns-clause-gone
+returns-clause-gone g c = turned_out c.args.budget c.loop-executed.executed c.loop-executed.executed c.loop-executed.events _ _ _ c.loop-executed.invariant.2 c.loop-executed-test.false (c.from.ensures ∙ ap spent c.status.ensures)
