@@ -1,6 +1,6 @@
 ghost use Rattle.std.specs.Prelude.{◌≡◌, ℕ, ◌+◌, ◌<◌, ◌≤◌, ◌++◌, length, IfOk, OnOk};
 ghost use Rattle.parser.specs.Parsing.{Stored};
-ghost use Rattle.syntax.specs.Post.{tree_limit};
+ghost use Rattle.syntax.specs.Steps.{tree_limit};
 ghost use Rattle.syntax.specs.Syntax.{Syntax, Shaped};
 ghost use Rattle.outline.specs.Order.{joining, line, inner, outlined};
 
@@ -19,10 +19,7 @@ pub struct Line {
 fn joins(kind: NodeKind) -> bool
     ensures { result ≡ joining kind }
 {
-    match kind {
-        NodeKind::Empty | NodeKind::Link | NodeKind::Sequence => true,
-        _ => false,
-    }
+    matches!(kind, NodeKind::Empty | NodeKind::Link | NodeKind::Sequence)
 }
 
 /// Adds the line of a node, and answers how deep its parts stand.
@@ -63,8 +60,7 @@ fn add(
     if parts == 1 {
         return Ok(());
     }
-    part(tree, at, node.second, inside, lines)?;
-    Ok(())
+    part(tree, at, node.second, inside, lines)
 }
 
 /// Adds the lines of a part of the node at an index.

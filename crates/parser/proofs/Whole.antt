@@ -11,7 +11,7 @@ use Rattle.lexer.specs.Reading.{Lawful}
 use Rattle.syntax.specs.declared.step.Cursor.{Cursor}
 use Rattle.syntax.specs.declared.tree.TreeRecord.{TreeRecord}
 use Rattle.syntax.specs.Syntax.{Syntax, leaf, unary, binary, size, entry, lay}
-use Rattle.syntax.specs.Post.{tree_limit, Room}
+use Rattle.syntax.specs.Steps.{tree_limit, Room}
 use Rattle.parser.specs.Parsing.{zero_node, lexical, syntax_of, Stored, Found, Module}
 use Rattle.parser.proofs.Shapes.{shaped}
 

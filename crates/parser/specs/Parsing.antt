@@ -19,7 +19,7 @@ use Rattle.syntax.specs.Symbols.{tag_codes, place_of}
 use Rattle.syntax.specs.Value.{value}
 use Rattle.syntax.specs.Syntax.{Syntax, leaf, unary, binary, size, entry, lay, Shaped, begin}
 use Rattle.syntax.specs.Actions.{act}
-use Rattle.syntax.specs.Post.{tree_limit, Room}
+use Rattle.syntax.specs.Steps.{tree_limit, Room}
 
 -- a record that keeps nothing
 abbrev pub zero_node : TreeRecord

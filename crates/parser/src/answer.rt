@@ -4,12 +4,12 @@ ghost use Rattle.lexer.specs.Records.{zero_record};
 ghost use Rattle.lexer.specs.Scan.{fault, symbol_limit};
 ghost use Rattle.grammar.specs.Claims.{OneTree, OneAnswer};
 ghost use Rattle.parser.specs.Parsing.{lexical, Descends, Parses as Answered, placed, zero_node, Short, ExpressionsBegin};
-ghost use Rattle.syntax.specs.Post.{tree_limit};
+ghost use Rattle.syntax.specs.Steps.{tree_limit};
 
 use crate::declarations::module;
 use faults::{Fault, FaultKind};
 use lexer::{MAX_SYMBOLS, SymbolRecord, scan};
-use syntax::{Cursor, Stop, TreeRecord};
+use syntax::{Cursor, Descent, Stop, TreeRecord};
 
 /// So many tree records are enough for every source.
 pub const MAX_RECORDS: usize = 2048;
@@ -56,16 +56,9 @@ fn fault_at(source: &[u8], symbols: &[SymbolRecord], stop: Stop) -> Fault
 fn whole(source: &[u8], symbols: &[SymbolRecord], tree: &mut [TreeRecord]) -> Result<Cursor, Stop>
     ensures { Descends source.now symbols.now tree.old result tree.new }
 {
-    match module(source, symbols, Ok(Cursor { at: 0, used: 0 }), tree) {
-        Ok(end) => {
-            if end.at < symbols.len() {
-                Err(Stop::Impossible(end.at))
-            } else {
-                Ok(end)
-            }
-        }
-        Err(stop) => Err(stop),
-    }
+    let mut descent = Descent::new(source, symbols, tree);
+    module(&mut descent)?;
+    descent.finish()
 }
 
 /// Zeroes both lists, and answers the fault.

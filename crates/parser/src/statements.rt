@@ -1,535 +1,320 @@
 ghost use Rattle.std.specs.Prelude.{◌≡◌, ℕ};
 ghost use Rattle.grammar.specs.Claims.{limit};
 ghost use Rattle.grammar.specs.Ebnf.{rep, opt, ref};
-ghost use Rattle.grammar.specs.Language.{Index, Expr, Stats, Stat, Action, If, While, Repeat, Loop, Return, For, Control};
-ghost use Rattle.syntax.specs.Actions.{chain, list, bare, arm, behind, maybe};
-ghost use Rattle.syntax.specs.Forms.{semicolon_stat, elsif_arm, else_part, by_part, assigning, assigned, targeted};
-ghost use Rattle.syntax.specs.Post.{Parses, Goes, Extends, Lays};
+ghost use Rattle.grammar.specs.Language.{Index, Args, Expr, Stats, Stat, Action, If, While, Repeat, Loop, Return, For, Control};
+ghost use Rattle.vocabulary.specs.declared.tag.Tag.TheVariants.{EndOfSource};
 ghost use Rattle.syntax.specs.declared.tree.NodeKind.TheVariants as kind;
+ghost use Rattle.syntax.specs.Actions.{list, arm, behind, maybe};
+ghost use Rattle.syntax.specs.Forms.{elsif_arm, else_part, by_part, assigning, assigned, targeted};
+ghost use Rattle.syntax.specs.Post.{Parses, Goes, Extends, Lays};
+ghost use Rattle.syntax.specs.Steps.{root};
+ghost use Rattle.syntax.specs.Symbols.{word_length};
+ghost use Rattle.syntax.specs.Syntax.{entry, label};
 
 use lexer::SymbolRecord;
-use syntax::{
-    Cursor, NodeKind, Stop, TreeRecord, advance, args, bare, begins_expr, elem, expect, expr,
-    impossible, index, next, next_place, node, push, root, too_deep, word_length,
-};
+use syntax::{Descent, NodeKind, Stop, TreeRecord, bare, begins_expr, node};
 use vocabulary::Tag;
 
 /// At most so many symbols may enclose a factor, and so many a statement.
 pub(crate) const LIMIT: u8 = 16;
 
 /// Statements with semicolons between them, inside at most `room` more enclosures.
-#[cycle(for_statement_if_statement_loop_statement_more_arms_more_stats_otherwise_repeat_statement_stat_stats_while_statement)]
-pub(crate) fn stats(
-    source: &[u8],
-    symbols: &[SymbolRecord],
-    start: Result<Cursor, Stop>,
-    room: u8,
-    tree: &mut [TreeRecord],
-) -> Result<Cursor, Stop>
-    ensures { Parses source.now symbols.now limit room 1 Stats start tree.old result tree.new }
+#[cycle(statements)]
+pub(crate) fn stats(descent: &mut Descent<'_>, room: u8) -> Result<usize, Stop>
+    ensures { Parses limit room 1 Stats descent.old result descent.new }
 {
-    let first = stat(source, symbols, start, room, tree);
-    more_stats(source, symbols, first, room, tree)
-}
-
-/// The statements behind the first.
-#[cycle(for_statement_if_statement_loop_statement_more_arms_more_stats_otherwise_repeat_statement_stat_stats_while_statement)]
-fn more_stats(
-    source: &[u8],
-    symbols: &[SymbolRecord],
-    before: Result<Cursor, Stop>,
-    room: u8,
-    tree: &mut [TreeRecord],
-) -> Result<Cursor, Stop>
-    ensures { Goes source.now symbols.now limit room (rep semicolon_stat) (λ v. Extends 0 (λ a. chain (λ x. bare kind.Sequence) (λ x. x.1) a v)) before tree.old result tree.new }
-{
-    match next(symbols, before) {
-        Tag::Semicolon => {
-            let item = stat(source, symbols, advance(symbols, before), room, tree);
-            let joined = push(
-                tree,
-                item,
-                bare(NodeKind::Sequence, root(before), root(item)),
-            );
-            more_stats(source, symbols, joined, room, tree)
-        }
-        _ => before,
+    let mut all = stat(descent, room)?;
+    while descent.accept(Tag::Semicolon) {
+        let item = stat(descent, room)?;
+        all = descent.push(bare(NodeKind::Sequence, all, item));
     }
+    Ok(all)
 }
 
 /// A statement, or nothing.
-#[cycle(for_statement_if_statement_loop_statement_more_arms_more_stats_otherwise_repeat_statement_stat_stats_while_statement)]
-fn stat(
-    source: &[u8],
-    symbols: &[SymbolRecord],
-    start: Result<Cursor, Stop>,
-    room: u8,
-    tree: &mut [TreeRecord],
-) -> Result<Cursor, Stop>
-    ensures { Parses source.now symbols.now limit room 1 Stat start tree.old result tree.new }
+#[cycle(statements)]
+fn stat(descent: &mut Descent<'_>, room: u8) -> Result<usize, Stop>
+    ensures { Parses limit room 1 Stat descent.old result descent.new }
 {
-    match next(symbols, start) {
-        Tag::Identifier => action(source, symbols, start, tree),
+    match descent.next() {
+        Tag::Identifier => action(descent),
         Tag::Exit => {
-            let place = next_place(symbols, start);
-            push(
-                tree,
-                advance(symbols, start),
-                node(NodeKind::Exit, Tag::EndOfSource, place, 0, 0, 0),
-            )
+            let word = descent.advance();
+            Ok(descent.push(node(NodeKind::Exit, Tag::EndOfSource, word.place, 0, 0, 0)))
         }
-        Tag::If => if_statement(source, symbols, start, room, tree),
-        Tag::While => while_statement(source, symbols, start, room, tree),
-        Tag::Repeat => repeat_statement(source, symbols, start, room, tree),
-        Tag::Loop => loop_statement(source, symbols, start, room, tree),
-        Tag::Return => return_statement(source, symbols, start, tree),
-        Tag::For => for_statement(source, symbols, start, room, tree),
-        _ => push(tree, start, bare(NodeKind::Empty, 0, 0)),
+        Tag::If => if_statement(descent, room),
+        Tag::While => while_statement(descent, room),
+        Tag::Repeat => repeat_statement(descent, room),
+        Tag::Loop => loop_statement(descent, room),
+        Tag::Return => return_statement(descent),
+        Tag::For => for_statement(descent, room),
+        _ => Ok(descent.push(bare(NodeKind::Empty, 0, 0))),
     }
 }
 
 /// The variable or element behind a name that is read: an index or none.
-fn target(
-    source: &[u8],
-    symbols: &[SymbolRecord],
-    after: Result<Cursor, Stop>,
-    place: u16,
-    length: usize,
-    tree: &mut [TreeRecord],
-) -> Result<Cursor, Stop>
-    ensures { (e : ℕ) → Goes source.now symbols.now limit e (opt (ref Index)) (λ v. Lays 1 (targeted place length v)) after tree.old result tree.new }
+fn target(descent: &mut Descent<'_>, name: SymbolRecord) -> Result<usize, Stop>
+    ensures { (e : ℕ) → Goes limit e (opt (ref Index)) (λ s rs v. Lays 1 (targeted name.place (word_length s name.place) v)) descent.old result descent.new }
 {
-    match next(symbols, after) {
-        Tag::OpenSquare => {
-            let part = index(source, symbols, after, LIMIT, tree);
-            push(
-                tree,
-                part,
-                node(
-                    NodeKind::Element,
-                    Tag::EndOfSource,
-                    place,
-                    length,
-                    root(part),
-                    0,
-                ),
-            )
-        }
-        _ => push(
-            tree,
-            after,
-            node(NodeKind::Name, Tag::EndOfSource, place, length, 0, 0),
-        ),
+    let length = descent.word_length(name);
+    if descent.is_next(Tag::OpenSquare) {
+        let part = descent.index(LIMIT)?;
+        return Ok(descent.push(node(
+            NodeKind::Element,
+            Tag::EndOfSource,
+            name.place,
+            length,
+            part,
+            0,
+        )));
     }
+    Ok(descent.push(node(NodeKind::Name, Tag::EndOfSource, name.place, length, 0, 0)))
 }
 
 /// The rest of an assignment behind its name.
-fn assignment(
-    source: &[u8],
-    symbols: &[SymbolRecord],
-    after: Result<Cursor, Stop>,
-    place: u16,
-    length: usize,
-    tree: &mut [TreeRecord],
-) -> Result<Cursor, Stop>
-    ensures { (e : ℕ) → Goes source.now symbols.now limit e assigning (λ v. Lays 0 (assigned source.now symbols.now place length v)) after tree.old result tree.new }
+fn assignment(descent: &mut Descent<'_>, name: SymbolRecord) -> Result<usize, Stop>
+    ensures { (e : ℕ) → Goes limit e assigning (λ s rs v. Lays 0 (assigned s rs name.place (word_length s name.place) v)) descent.old result descent.new }
 {
-    let variable = target(source, symbols, after, place, length, tree);
-    let becomes = next_place(symbols, variable);
-    let assigned = expect(symbols, variable, Tag::Becomes);
-    let value = expr(source, symbols, assigned, LIMIT, tree);
-    push(
-        tree,
+    let variable = target(descent, name)?;
+    let becomes = descent.expect(Tag::Becomes)?;
+    let value = descent.expr(LIMIT)?;
+    Ok(descent.push(node(
+        NodeKind::Assign,
+        Tag::EndOfSource,
+        becomes.place,
+        0,
+        variable,
         value,
-        node(
-            NodeKind::Assign,
-            Tag::EndOfSource,
-            becomes,
-            0,
-            root(variable),
-            root(value),
-        ),
-    )
+    )))
+}
+
+/// The arguments of a call, or nothing.
+fn arguments(descent: &mut Descent<'_>) -> Result<usize, Stop>
+    ensures { (e : ℕ) → Goes limit e (opt (ref Args)) (λ s rs v. Lays 1 (maybe s rs v)) descent.old result descent.new }
+{
+    if descent.is_next(Tag::OpenRound) {
+        descent.args(LIMIT)
+    } else {
+        Ok(descent.push(bare(NodeKind::Empty, 0, 0)))
+    }
 }
 
 /// A statement that begins with a name: an assignment or a call.
-fn action(
-    source: &[u8],
-    symbols: &[SymbolRecord],
-    start: Result<Cursor, Stop>,
-    tree: &mut [TreeRecord],
-) -> Result<Cursor, Stop>
-    ensures { (e : ℕ) → Parses source.now symbols.now limit e 0 Action start tree.old result tree.new }
+fn action(descent: &mut Descent<'_>) -> Result<usize, Stop>
+    ensures { (e : ℕ) → Parses limit e 0 Action descent.old result descent.new }
 {
-    let place = next_place(symbols, start);
-    let length = word_length(source, place as usize);
-    let named = expect(symbols, start, Tag::Identifier);
-    match next(symbols, named) {
-        Tag::OpenSquare => assignment(source, symbols, named, place, length, tree),
-        Tag::Becomes => assignment(source, symbols, named, place, length, tree),
-        Tag::OpenRound => {
-            let part = args(source, symbols, named, LIMIT, tree);
-            push(
-                tree,
-                part,
-                node(
-                    NodeKind::Call,
-                    Tag::EndOfSource,
-                    place,
-                    length,
-                    root(part),
-                    0,
-                ),
-            )
-        }
+    let name = descent.expect(Tag::Identifier)?;
+    match descent.next() {
+        Tag::OpenSquare | Tag::Becomes => assignment(descent, name),
         _ => {
-            let part = push(tree, named, bare(NodeKind::Empty, 0, 0));
-            push(
-                tree,
+            let length = descent.word_length(name);
+            let part = arguments(descent)?;
+            Ok(descent.push(node(
+                NodeKind::Call,
+                Tag::EndOfSource,
+                name.place,
+                length,
                 part,
-                node(
-                    NodeKind::Call,
-                    Tag::EndOfSource,
-                    place,
-                    length,
-                    root(part),
-                    0,
-                ),
-            )
+                0,
+            )))
         }
     }
 }
 
-/// The arms that ELSIF begins.
-#[cycle(for_statement_if_statement_loop_statement_more_arms_more_stats_otherwise_repeat_statement_stat_stats_while_statement)]
-fn more_arms(
-    source: &[u8],
-    symbols: &[SymbolRecord],
-    before: Result<Cursor, Stop>,
-    room: u8,
-    tree: &mut [TreeRecord],
-) -> Result<Cursor, Stop>
-    ensures { Goes source.now symbols.now limit room (rep elsif_arm) (λ v. Extends 0 (λ a. list (arm source.now symbols.now) a v)) before tree.old result tree.new }
+/// The node of an arm, at its IF or ELSIF.
+fn arm(word: SymbolRecord, condition: usize, body: usize) -> TreeRecord
+    ensures { result ≡ entry (label kind.Arm EndOfSource word.place 0) condition body }
 {
-    match next(symbols, before) {
-        Tag::Elsif => {
-            let place = next_place(symbols, before);
-            let condition = expr(source, symbols, advance(symbols, before), LIMIT, tree);
-            let then = expect(symbols, condition, Tag::Then);
-            let body = stats(source, symbols, then, room, tree);
-            let arm = push(
-                tree,
-                body,
-                node(
-                    NodeKind::Arm,
-                    Tag::EndOfSource,
-                    place,
-                    0,
-                    root(condition),
-                    root(body),
-                ),
-            );
-            let joined = push(tree, arm, bare(NodeKind::Link, root(before), root(arm)));
-            more_arms(source, symbols, joined, room, tree)
-        }
-        _ => before,
+    node(
+        NodeKind::Arm,
+        Tag::EndOfSource,
+        word.place,
+        0,
+        condition,
+        body,
+    )
+}
+
+/// The arms that ELSIF begins, added to the list of those before.
+#[cycle(statements)]
+fn more_arms(descent: &mut Descent<'_>, room: u8, before: usize) -> Result<usize, Stop>
+    requires { before ≡ root descent.old }
+    ensures { Goes limit room (rep elsif_arm) (λ s rs v. Extends 0 (λ a. list (arm s rs) a v)) descent.old result descent.new }
+{
+    let mut all = before;
+    while descent.is_next(Tag::Elsif) {
+        let word = descent.advance();
+        let condition = descent.expr(LIMIT)?;
+        descent.expect(Tag::Then)?;
+        let body = stats(descent, room)?;
+        let item = descent.push(arm(word, condition, body));
+        all = descent.push(bare(NodeKind::Link, all, item));
     }
+    Ok(all)
 }
 
 /// What stands behind ELSE, or nothing.
-#[cycle(for_statement_if_statement_loop_statement_more_arms_more_stats_otherwise_repeat_statement_stat_stats_while_statement)]
-fn otherwise(
-    source: &[u8],
-    symbols: &[SymbolRecord],
-    before: Result<Cursor, Stop>,
-    room: u8,
-    tree: &mut [TreeRecord],
-) -> Result<Cursor, Stop>
-    ensures { Goes source.now symbols.now limit room else_part (λ v. Lays 1 (behind source.now symbols.now v)) before tree.old result tree.new }
+#[cycle(statements)]
+fn otherwise(descent: &mut Descent<'_>, room: u8) -> Result<usize, Stop>
+    ensures { Goes limit room else_part (λ s rs v. Lays 1 (behind s rs v)) descent.old result descent.new }
 {
-    match next(symbols, before) {
-        Tag::Else => stats(source, symbols, advance(symbols, before), room, tree),
-        _ => push(tree, before, bare(NodeKind::Empty, 0, 0)),
+    if descent.accept(Tag::Else) {
+        stats(descent, room)
+    } else {
+        Ok(descent.push(bare(NodeKind::Empty, 0, 0)))
     }
 }
 
 /// IF.
-#[cycle(for_statement_if_statement_loop_statement_more_arms_more_stats_otherwise_repeat_statement_stat_stats_while_statement)]
-fn if_statement(
-    source: &[u8],
-    symbols: &[SymbolRecord],
-    start: Result<Cursor, Stop>,
-    room: u8,
-    tree: &mut [TreeRecord],
-) -> Result<Cursor, Stop>
-    ensures { Parses source.now symbols.now limit room 0 If start tree.old result tree.new }
+#[cycle(statements)]
+fn if_statement(descent: &mut Descent<'_>, room: u8) -> Result<usize, Stop>
+    ensures { Parses limit room 0 If descent.old result descent.new }
 {
-    match next(symbols, start) {
-        Tag::If => {
-            if room == 0 {
-                return too_deep(start);
-            }
-            let place = next_place(symbols, start);
-            let condition = expr(source, symbols, advance(symbols, start), LIMIT, tree);
-            let then = expect(symbols, condition, Tag::Then);
-            let body = stats(source, symbols, then, room - 1, tree);
-            let arm = push(
-                tree,
-                body,
-                node(
-                    NodeKind::Arm,
-                    Tag::EndOfSource,
-                    place,
-                    0,
-                    root(condition),
-                    root(body),
-                ),
-            );
-            let arms = more_arms(source, symbols, arm, room - 1, tree);
-            let other = otherwise(source, symbols, arms, room - 1, tree);
-            let end = next_place(symbols, other) as usize;
-            let closed = expect(symbols, other, Tag::End);
-            push(
-                tree,
-                closed,
-                node(
-                    NodeKind::If,
-                    Tag::EndOfSource,
-                    place,
-                    end,
-                    root(arms),
-                    root(other),
-                ),
-            )
-        }
-        _ => impossible(start),
-    }
+    let (word, inside) = descent.open(Tag::If, room)?;
+    let condition = descent.expr(LIMIT)?;
+    descent.expect(Tag::Then)?;
+    let body = stats(descent, inside)?;
+    let first = descent.push(arm(word, condition, body));
+    let arms = more_arms(descent, inside, first)?;
+    let other = otherwise(descent, inside)?;
+    let end = descent.expect(Tag::End)?;
+    Ok(descent.push(node(
+        NodeKind::If,
+        Tag::EndOfSource,
+        word.place,
+        end.place as usize,
+        arms,
+        other,
+    )))
 }
 
 /// WHILE.
-#[cycle(for_statement_if_statement_loop_statement_more_arms_more_stats_otherwise_repeat_statement_stat_stats_while_statement)]
-fn while_statement(
-    source: &[u8],
-    symbols: &[SymbolRecord],
-    start: Result<Cursor, Stop>,
-    room: u8,
-    tree: &mut [TreeRecord],
-) -> Result<Cursor, Stop>
-    ensures { Parses source.now symbols.now limit room 0 While start tree.old result tree.new }
+#[cycle(statements)]
+fn while_statement(descent: &mut Descent<'_>, room: u8) -> Result<usize, Stop>
+    ensures { Parses limit room 0 While descent.old result descent.new }
 {
-    match next(symbols, start) {
-        Tag::While => {
-            if room == 0 {
-                return too_deep(start);
-            }
-            let place = next_place(symbols, start);
-            let condition = expr(source, symbols, advance(symbols, start), LIMIT, tree);
-            let begun = expect(symbols, condition, Tag::Do);
-            let body = stats(source, symbols, begun, room - 1, tree);
-            let end = next_place(symbols, body) as usize;
-            let closed = expect(symbols, body, Tag::End);
-            push(
-                tree,
-                closed,
-                node(
-                    NodeKind::While,
-                    Tag::EndOfSource,
-                    place,
-                    end,
-                    root(condition),
-                    root(body),
-                ),
-            )
-        }
-        _ => impossible(start),
-    }
+    let (word, inside) = descent.open(Tag::While, room)?;
+    let condition = descent.expr(LIMIT)?;
+    descent.expect(Tag::Do)?;
+    let body = stats(descent, inside)?;
+    let end = descent.expect(Tag::End)?;
+    Ok(descent.push(node(
+        NodeKind::While,
+        Tag::EndOfSource,
+        word.place,
+        end.place as usize,
+        condition,
+        body,
+    )))
 }
 
 /// REPEAT.
-#[cycle(for_statement_if_statement_loop_statement_more_arms_more_stats_otherwise_repeat_statement_stat_stats_while_statement)]
-fn repeat_statement(
-    source: &[u8],
-    symbols: &[SymbolRecord],
-    start: Result<Cursor, Stop>,
-    room: u8,
-    tree: &mut [TreeRecord],
-) -> Result<Cursor, Stop>
-    ensures { Parses source.now symbols.now limit room 0 Repeat start tree.old result tree.new }
+#[cycle(statements)]
+fn repeat_statement(descent: &mut Descent<'_>, room: u8) -> Result<usize, Stop>
+    ensures { Parses limit room 0 Repeat descent.old result descent.new }
 {
-    match next(symbols, start) {
-        Tag::Repeat => {
-            if room == 0 {
-                return too_deep(start);
-            }
-            let place = next_place(symbols, start);
-            let body = stats(source, symbols, advance(symbols, start), room - 1, tree);
-            let ended = expect(symbols, body, Tag::Until);
-            let condition = expr(source, symbols, ended, LIMIT, tree);
-            push(
-                tree,
-                condition,
-                node(
-                    NodeKind::Repeat,
-                    Tag::EndOfSource,
-                    place,
-                    0,
-                    root(body),
-                    root(condition),
-                ),
-            )
-        }
-        _ => impossible(start),
-    }
+    let (word, inside) = descent.open(Tag::Repeat, room)?;
+    let body = stats(descent, inside)?;
+    descent.expect(Tag::Until)?;
+    let condition = descent.expr(LIMIT)?;
+    Ok(descent.push(node(
+        NodeKind::Repeat,
+        Tag::EndOfSource,
+        word.place,
+        0,
+        body,
+        condition,
+    )))
 }
 
 /// LOOP.
-#[cycle(for_statement_if_statement_loop_statement_more_arms_more_stats_otherwise_repeat_statement_stat_stats_while_statement)]
-fn loop_statement(
-    source: &[u8],
-    symbols: &[SymbolRecord],
-    start: Result<Cursor, Stop>,
-    room: u8,
-    tree: &mut [TreeRecord],
-) -> Result<Cursor, Stop>
-    ensures { Parses source.now symbols.now limit room 0 Loop start tree.old result tree.new }
+#[cycle(statements)]
+fn loop_statement(descent: &mut Descent<'_>, room: u8) -> Result<usize, Stop>
+    ensures { Parses limit room 0 Loop descent.old result descent.new }
 {
-    match next(symbols, start) {
-        Tag::Loop => {
-            if room == 0 {
-                return too_deep(start);
-            }
-            let place = next_place(symbols, start);
-            let body = stats(source, symbols, advance(symbols, start), room - 1, tree);
-            let end = next_place(symbols, body) as usize;
-            let closed = expect(symbols, body, Tag::End);
-            push(
-                tree,
-                closed,
-                node(NodeKind::Loop, Tag::EndOfSource, place, end, root(body), 0),
-            )
-        }
-        _ => impossible(start),
-    }
+    let (word, inside) = descent.open(Tag::Loop, room)?;
+    let body = stats(descent, inside)?;
+    let end = descent.expect(Tag::End)?;
+    Ok(descent.push(node(
+        NodeKind::Loop,
+        Tag::EndOfSource,
+        word.place,
+        end.place as usize,
+        body,
+        0,
+    )))
 }
 
 /// The value behind RETURN, or nothing.
-fn returned(
-    source: &[u8],
-    symbols: &[SymbolRecord],
-    before: Result<Cursor, Stop>,
-    tree: &mut [TreeRecord],
-) -> Result<Cursor, Stop>
-    ensures { (e : ℕ) → Goes source.now symbols.now limit e (opt (ref Expr)) (λ v. Lays 1 (maybe source.now symbols.now v)) before tree.old result tree.new }
+fn returned(descent: &mut Descent<'_>) -> Result<usize, Stop>
+    ensures { (e : ℕ) → Goes limit e (opt (ref Expr)) (λ s rs v. Lays 1 (maybe s rs v)) descent.old result descent.new }
 {
-    if begins_expr(next(symbols, before)) {
-        expr(source, symbols, before, LIMIT, tree)
+    if begins_expr(descent.next()) {
+        descent.expr(LIMIT)
     } else {
-        push(tree, before, bare(NodeKind::Empty, 0, 0))
+        Ok(descent.push(bare(NodeKind::Empty, 0, 0)))
     }
 }
 
 /// RETURN.
-fn return_statement(
-    source: &[u8],
-    symbols: &[SymbolRecord],
-    start: Result<Cursor, Stop>,
-    tree: &mut [TreeRecord],
-) -> Result<Cursor, Stop>
-    ensures { (e : ℕ) → Parses source.now symbols.now limit e 0 Return start tree.old result tree.new }
+fn return_statement(descent: &mut Descent<'_>) -> Result<usize, Stop>
+    ensures { (e : ℕ) → Parses limit e 0 Return descent.old result descent.new }
 {
-    let place = next_place(symbols, start);
-    let begun = expect(symbols, start, Tag::Return);
-    let value = returned(source, symbols, begun, tree);
-    push(
-        tree,
-        value,
-        node(NodeKind::Return, Tag::EndOfSource, place, 0, root(value), 0),
-    )
+    let word = descent.expect(Tag::Return)?;
+    let value = returned(descent)?;
+    Ok(descent.push(node(NodeKind::Return, Tag::EndOfSource, word.place, 0, value, 0)))
 }
 
 /// The step behind BY, or nothing.
-fn step_by(
-    source: &[u8],
-    symbols: &[SymbolRecord],
-    before: Result<Cursor, Stop>,
-    tree: &mut [TreeRecord],
-) -> Result<Cursor, Stop>
-    ensures { (d e : ℕ) → Goes source.now symbols.now d e by_part (λ v. Lays 1 (behind source.now symbols.now v)) before tree.old result tree.new }
+fn step_by(descent: &mut Descent<'_>) -> Result<usize, Stop>
+    ensures { (d e : ℕ) → Goes d e by_part (λ s rs v. Lays 1 (behind s rs v)) descent.old result descent.new }
 {
-    match next(symbols, before) {
-        Tag::By => elem(source, symbols, advance(symbols, before), tree),
-        _ => push(tree, before, bare(NodeKind::Empty, 0, 0)),
+    if descent.accept(Tag::By) {
+        descent.elem()
+    } else {
+        Ok(descent.push(bare(NodeKind::Empty, 0, 0)))
     }
 }
 
 /// The control of a FOR: its name and its terms.
-fn control(
-    source: &[u8],
-    symbols: &[SymbolRecord],
-    start: Result<Cursor, Stop>,
-    tree: &mut [TreeRecord],
-) -> Result<Cursor, Stop>
-    ensures { (e : ℕ) → Parses source.now symbols.now limit e 0 Control start tree.old result tree.new }
+fn control(descent: &mut Descent<'_>) -> Result<usize, Stop>
+    ensures { (e : ℕ) → Parses limit e 0 Control descent.old result descent.new }
 {
-    let place = next_place(symbols, start);
-    let length = word_length(source, place as usize);
-    let named = expect(symbols, start, Tag::Identifier);
-    let begun = expect(symbols, named, Tag::Becomes);
-    let first = expr(source, symbols, begun, LIMIT, tree);
-    let to = expect(symbols, first, Tag::To);
-    let last = expr(source, symbols, to, LIMIT, tree);
-    let limits = push(tree, last, bare(NodeKind::Limits, root(first), root(last)));
-    let step = step_by(source, symbols, limits, tree);
-    let terms = push(tree, step, bare(NodeKind::Terms, root(limits), root(step)));
-    push(
-        tree,
+    let name = descent.expect(Tag::Identifier)?;
+    let length = descent.word_length(name);
+    descent.expect(Tag::Becomes)?;
+    let first = descent.expr(LIMIT)?;
+    descent.expect(Tag::To)?;
+    let last = descent.expr(LIMIT)?;
+    let limits = descent.push(bare(NodeKind::Limits, first, last));
+    let step = step_by(descent)?;
+    let terms = descent.push(bare(NodeKind::Terms, limits, step));
+    Ok(descent.push(node(
+        NodeKind::Control,
+        Tag::EndOfSource,
+        name.place,
+        length,
         terms,
-        node(
-            NodeKind::Control,
-            Tag::EndOfSource,
-            place,
-            length,
-            root(terms),
-            0,
-        ),
-    )
+        0,
+    )))
 }
 
 /// FOR.
-#[cycle(for_statement_if_statement_loop_statement_more_arms_more_stats_otherwise_repeat_statement_stat_stats_while_statement)]
-fn for_statement(
-    source: &[u8],
-    symbols: &[SymbolRecord],
-    start: Result<Cursor, Stop>,
-    room: u8,
-    tree: &mut [TreeRecord],
-) -> Result<Cursor, Stop>
-    ensures { Parses source.now symbols.now limit room 0 For start tree.old result tree.new }
+#[cycle(statements)]
+fn for_statement(descent: &mut Descent<'_>, room: u8) -> Result<usize, Stop>
+    ensures { Parses limit room 0 For descent.old result descent.new }
 {
-    match next(symbols, start) {
-        Tag::For => {
-            if room == 0 {
-                return too_deep(start);
-            }
-            let place = next_place(symbols, start);
-            let head = control(source, symbols, advance(symbols, start), tree);
-            let begun = expect(symbols, head, Tag::Do);
-            let body = stats(source, symbols, begun, room - 1, tree);
-            let end = next_place(symbols, body) as usize;
-            let closed = expect(symbols, body, Tag::End);
-            push(
-                tree,
-                closed,
-                node(
-                    NodeKind::For,
-                    Tag::EndOfSource,
-                    place,
-                    end,
-                    root(head),
-                    root(body),
-                ),
-            )
-        }
-        _ => impossible(start),
-    }
+    let (word, inside) = descent.open(Tag::For, room)?;
+    let head = control(descent)?;
+    descent.expect(Tag::Do)?;
+    let body = stats(descent, inside)?;
+    let end = descent.expect(Tag::End)?;
+    Ok(descent.push(node(
+        NodeKind::For,
+        Tag::EndOfSource,
+        word.place,
+        end.place as usize,
+        head,
+        body,
+    )))
 }

@@ -292,6 +292,10 @@ did_turn {p} a = did_as (λ m. record {
   wrote = m.wrote;
 }) a
 
+-- with what was written known, and not what is to be told
+pub did_turned : {d e : ℕ} {g h k : G NT} {P : Tells (seq (seq g h) k)} {p p' : Descent} → Did d e (seq (seq g h) k) P p p' → Did d e (seq g (seq h k)) (λ s rs v. P s rs ((v.0, v.1.0), v.1.1)) p p'
+did_turned a = did_turn a
+
 pub did_skip : {d e : ℕ} {g : G NT} {P : Tells (seq eps g)} {p p' : Descent} → Did d e (seq eps g) P p p' → Did d e g (λ s rs v. P s rs (tt, v)) p p'
 did_skip {p} a = did_as (λ m. record {
   val = m.val.1;

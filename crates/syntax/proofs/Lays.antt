@@ -6,7 +6,7 @@ use Rattle.syntax.specs.declared.tree.NodeKind.{NodeKind}
 use Rattle.syntax.specs.declared.tree.TreeRecord.{TreeRecord}
 use Rattle.syntax.specs.Syntax.{Label, Syntax, leaf, unary, binary, size, label, entry, lay}
 use Rattle.syntax.specs.Steps.{Room, Added}
-use Rattle.syntax.specs.Post.{Passed, Laid, Lays, Extends}
+use Rattle.syntax.specs.Post.{Passed, Laid, Lays, Spares, Extends}
 
 -- a record written behind those in use, if it fits in
 pub added : (r : TreeRecord) (c c' : Cursor) (t t' : List TreeRecord) → c'.at ≡ c.at → c'.used ≡ min (c.used + 1) 18446744073709551615 →
@@ -229,3 +229,40 @@ extends_laid {l} {s} {r} {c} {c₁} {c₂} {t} {t₁} {t₂} long q a e z =
 pub extends_item : {k n : ℕ} {l : Label} {s : Syntax} {r : TreeRecord} {c c₁ c₂ c₃ : Cursor} {t t₁ t₂ t₃ : List TreeRecord} →
     Passed n c t c₁ t₁ → Lays k s c₁ t₁ c₂ t₂ → Added r c₂ t₂ c₃ t₃ → r ≡ entry l (c.used - 1) (c₂.used - 1) → (j : ℕ) → suc k ≤ 2 * n + j → Extends j (λ a. binary l a s) c t c₃ t₃
 extends_item p q a e j z = extends_join {m = 0} p q a e (extends_none passed_none) j (omega arith)
+
+-- a tree behind which symbols pay for one record more
+pub spares_close : {n k : ℕ} {s : Syntax} {c c₁ c₂ : Cursor} {t t₁ t₂ : List TreeRecord} → Lays k s c t c₁ t₁ → Passed n c₁ t₁ c₂ t₂ → suc k ≤ 2 * n → Spares s c t c₂ t₂
+spares_close a p z =
+    let h₀ = p.on in let h₁ = p.used in let h₂ = ap length p.same in let h₃ = a.few in let h₄ = a.long in
+    record { long = omega arith; few = omega arith; laid = laid_passed a.laid p }
+
+-- a leaf behind a symbol
+pub spares_leaf : {r : TreeRecord} {c c₁ c₂ : Cursor} {t t₁ t₂ : List TreeRecord} (l : Label) → Passed 1 c t c₁ t₁ → r ≡ entry l 0 0 → Added r c₁ t₁ c₂ t₂ → Spares (leaf l) c t c₂ t₂
+spares_leaf l p e a =
+    let h₀ = p.on in let h₁ = p.used in let h₂ = ap length p.same in let h₃ = a.at in let h₄ = a.most in let h₅ = a.long in
+    record { long = omega arith; few = omega arith; laid = laid_from p (laid_leaf l e a) }
+
+-- with more behind it
+pub spares_more : {s : Syntax} {f : Syntax → Syntax} {c c₁ c₂ : Cursor} {t t₁ t₂ : List TreeRecord} → Spares s c t c₁ t₁ → Extends 0 f c₁ t₁ c₂ t₂ → Spares (f s) c t c₂ t₂
+spares_more {s} {c} {t} p q =
+    let h₀ = p.few in let h₁ = q.few in let h₂ = p.long in let h₃ = q.long in
+    record { long = omega arith; few = omega arith; laid = q.laid s c.used t p.laid }
+
+-- the same tree under another name
+pub spares_as : {s u : Syntax} {c c' : Cursor} {t t' : List TreeRecord} → u ≡ s → Spares s c t c' t' → Spares u c t c' t'
+spares_as {c} {c'} {t} {t'} e p = subst (λ x. Spares x c t c' t') (sym e) p
+
+-- a record that joins such a tree to what was there
+pub extends_spared : {l : Label} {s : Syntax} {r : TreeRecord} {c c₁ c₂ : Cursor} {t t₁ t₂ : List TreeRecord} → Spares s c t c₁ t₁ → Added r c₁ t₁ c₂ t₂ → r ≡ entry l (c.used - 1) (c₁.used - 1) → Extends 0 (λ a. binary l a s) c t c₂ t₂
+extends_spared p a e = extends_laid p.long p.laid a e p.few
+
+-- two parts, each with symbols behind it, and the record behind
+pub binary_spares : {k m n j : ℕ} {l : Label} {s u : Syntax} {r : TreeRecord} {c c₁ c₂ c₃ c₄ c₅ : Cursor} {t t₁ t₂ t₃ t₄ t₅ : List TreeRecord} →
+    Lays k s c t c₁ t₁ → Passed n c₁ t₁ c₂ t₂ → Lays m u c₂ t₂ c₃ t₃ → Passed j c₃ t₃ c₄ t₄ → Added r c₄ t₄ c₅ t₅ → r ≡ entry l (c₁.used - 1) (c₃.used - 1) → suc (suc k + m) ≤ 2 * (n + j) → Spares (binary l s u) c t c₅ t₅
+binary_spares {k} {m} {n} {j} {l} {s} {u} {r} {c} {c₁} {c₂} {c₃} {c₄} {c₅} {t} {t₁} {t₂} {t₃} {t₄} {t₅} a p b q d e z =
+    let h₀ = p.on in let h₁ = p.used in let h₂ = ap length p.same in let h₃ = a.few in let h₄ = a.long in let h₅ = b.few in let h₆ = b.long in let h₇ = d.at in let h₈ = d.most in let h₉ = d.long in let k₀ = q.on in let k₁ = q.used in let k₂ = ap length q.same in
+    record {
+      long = omega arith;
+      few = omega arith;
+      laid = laid_binary l (laid_passed a.laid p) (laid_passed b.laid q) (omega arith) (e ∙ ap (λ v. entry l (v - 1) (c₃.used - 1)) (sym h₁) ∙ ap (λ v. entry l (c₂.used - 1) (v - 1)) (sym k₁)) d;
+    }

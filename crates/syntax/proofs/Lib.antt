@@ -1,4 +1,4 @@
 pub mod Tags
 pub mod Lays
 pub mod Joins
-pub mod Loops
+pub mod Parts

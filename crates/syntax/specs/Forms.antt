@@ -9,7 +9,7 @@ use Rattle.lexer.specs.declared.symbol.SymbolRecord.{SymbolRecord}
 use Rattle.syntax.specs.declared.tree.NodeKind.TheVariants as kind
 use Rattle.syntax.specs.Symbols.{place_of, number_at}
 use Rattle.syntax.specs.Syntax.{Syntax, leaf, unary, binary, label}
-use Rattle.syntax.specs.Actions.{valued, at, named, bare, names, name}
+use Rattle.syntax.specs.Actions.{valued, at, named, bare, list, names, name}
 
 abbrev pub comma_range : G NT
 comma_range = sign tag.Comma ⨾ ref Range
@@ -98,11 +98,17 @@ constant_item = n ⨾ sign tag.Equal ⨾ ref Const ⨾ sign tag.Semicolon
 abbrev pub variable_item : G NT
 variable_item = n ⨾ rep comma_name ⨾ sign tag.Colon ⨾ ref «Type» ⨾ sign tag.Semicolon
 
--- an item behind a list
-abbrev pub linked : Syntax → Syntax → Syntax
-linked a s = binary (bare kind.Link) a s
+abbrev pub const_part : G NT
+const_part = sign tag.Const ⨾ rep constant_item
 
--- the trees of an array type, a declared constant, declared variables, and of a closing name behind a body
+abbrev pub var_part : G NT
+var_part = sign tag.Var ⨾ rep variable_item
+
+-- what declarations and procedures begin with
+abbrev pub declaring : List ℕ
+declaring = codes (tag.Const ∷ tag.Var ∷ tag.Procedure ∷ [])
+
+-- the trees of an array type, a declared constant and all behind CONST, declared variables and all behind VAR, and of a closing name behind a body
 module _ (source : List ℕ) (symbols : List SymbolRecord) where
   abbrev pub array_of : (ℕ × (ℕ × (Syntax × (ℕ × (Syntax × (ℕ × (ℕ × ℕ))))))) → Syntax
   array_of v = binary (at source symbols kind.Array v.0) (binary (bare kind.Bounds) v.1.1.0 v.1.1.1.1.0) (name source symbols v.1.1.1.1.1.1.1)
@@ -112,6 +118,12 @@ module _ (source : List ℕ) (symbols : List SymbolRecord) where
 
   abbrev pub variable_of : (ℕ × (List (ℕ × ℕ) × (ℕ × (Syntax × ℕ)))) → Syntax
   variable_of v = binary (bare kind.Variable) (names source symbols v.0 v.1.0) v.1.1.1.0
+
+  abbrev pub constants_of : (ℕ × List (ℕ × (ℕ × (Syntax × ℕ)))) → Syntax
+  constants_of v = list constant_of (leaf (at source symbols kind.Constants v.0)) v.1
+
+  abbrev pub variables_of : (ℕ × List (ℕ × (List (ℕ × ℕ) × (ℕ × (Syntax × ℕ))))) → Syntax
+  variables_of v = list variable_of (leaf (at source symbols kind.Variables v.0)) v.1
 
   abbrev pub closes : ℕ → Syntax → Syntax
   closes i b = unary (named source symbols kind.Closing i) b

@@ -1,5 +1,5 @@
 -- What a function of the parser does: from where it stands, the symbols of a grammar expression are read, or it stops.
-use Rattle.std.specs.Prelude.{◌≡◌, ℕ, ◌+◌, ◌*◌, ◌≤◌, List, ◌++◌, length, take, drop, Ok, Err, Result}
+use Rattle.std.specs.Prelude.{◌≡◌, ℕ, suc, ◌+◌, ◌*◌, ◌≤◌, List, ◌++◌, length, take, drop, Ok, Err, Result}
 use Rattle.lexer.specs.declared.symbol.SymbolRecord.{SymbolRecord}
 use Rattle.grammar.specs.Ebnf.{G, ref, Tree, yield}
 use Rattle.grammar.specs.Reader.{Why, wrong, deep, Reads, Stops}
@@ -37,6 +37,12 @@ pub record Laid (n : ℕ) (before : List TreeRecord) (s : Syntax) (c : Cursor) (
 pub record Lays (more : ℕ) (s : Syntax) (c : Cursor) (t : List TreeRecord) (c' : Cursor) (t' : List TreeRecord) : Type 0 where
   pub long : length t' ≡ length t
   pub few : c'.used + 2 * c.at ≤ c.used + 2 * c'.at + more
+  pub laid : Laid c.used t s c' t'
+
+-- the same, and at least one fewer than two for each symbol
+pub record Spares (s : Syntax) (c : Cursor) (t : List TreeRecord) (c' : Cursor) (t' : List TreeRecord) : Type 0 where
+  pub long : length t' ≡ length t
+  pub few : suc (c'.used + 2 * c.at) ≤ c.used + 2 * c'.at
   pub laid : Laid c.used t s c' t'
 
 -- records were written so that what was a tree before is now another; at most two for each symbol, and so many more

@@ -24,6 +24,7 @@ pub enum Stop {
 }
 
 /// A descent over the symbols of a source, and the tree that it writes.
+#[derive(Drop)]
 pub struct Descent<'a> {
     source: &'a [u8],
     symbols: &'a [SymbolRecord],
@@ -64,7 +65,7 @@ impl Descent<'_> {
     }
 
     /// Whether the next symbol has the tag.
-    fn is_next(&self, tag: Tag) -> bool
+    pub fn is_next(&self, tag: Tag) -> bool
         ensures { NextIs (code tag) self.now result }
     {
         match self.symbols.get(self.here.at) {

@@ -1,16 +1,16 @@
-use Rattle.std.proofs.Common.{T, inl, inr, rules}
-use Rattle.grammar.specs.Codes.{code}
-use Rattle.grammar.specs.Ebnf.{mem}
-use Rattle.grammar.specs.Sets.{firsts}
+use Rattle.std.proofs.Common.{}
 use Rattle.grammar.specs.Language.{Elem}
-use Rattle.syntax.proofs.Goes.{on_by, off_by, goes_node, goes_left, goes_right}
+use Rattle.grammar.specs.Sets.{firsts}
+use Rattle.syntax.specs.Steps.{On, Off}
+use Rattle.syntax.proofs.Joins.{did_left, did_node, did_right, fails_left, fails_node, fails_right, goes_as, off_class, on_class}
 use Rattle.parser.proofs.declarations.constant.Goals as goal
 
-pub returns-in-Minus : goal.returns-in-Minus
-returns-in-Minus c d e =
-    let m : T (mem (code c.next.result) (firsts Elem)) = elim c.in-Minus.is [ inl h ↦ rw h tt | inr h ↦ elim h [ inl i ↦ rw i tt | inr i ↦ rw i tt ] ] in
-    goes_node _ _ (goes_left _ _ (on_by (code c.next.result) c.next.ensures.coded tt m) (c.elem.ensures d e))
+pub returns-then-begins_elem : goal.returns-then-begins_elem
+returns-then-begins_elem c d e =
+    let o : On c.args.descent.now (firsts Elem) = on_class c.next.ensures.coded c.begins_elem.ensures c.if-begins_elem.true tt in
+    goes_as (λ a. did_node (did_left o a)) (λ z a. fails_node (fails_left o a)) (c.elem.ensures d e)
 
-pub returns-in_default : goal.returns-in_default
-returns-in_default c d e =
-    goes_node _ _ (goes_right _ _ (off_by (code c.next.result) c.next.ensures.coded tt (search rules)) (c.set.ensures d e))
+pub returns-else-begins_elem : goal.returns-else-begins_elem
+returns-else-begins_elem c d e =
+    let o : Off c.args.descent.now (firsts Elem) = off_class c.next.ensures.coded c.begins_elem.ensures c.if-begins_elem.false tt in
+    goes_as (λ a. did_node (did_right o a)) (λ z a. fails_node (fails_right o a)) (c.set.ensures d e)

@@ -1,30 +1,37 @@
-use Rattle.std.proofs.Common.{◌≡◌, ◌-◌, sym, refl, ap, ◌∙◌, arith}
-use Rattle.vocabulary.specs.declared.tag.Tag.TheVariants.{EndOfSource}
-use Rattle.syntax.specs.declared.tree.NodeKind.TheVariants as kind
-use Rattle.syntax.specs.Symbols.{next_place, place_of, word_length, last_root}
-use Rattle.syntax.specs.Syntax.{label}
-use Rattle.syntax.proofs.Goes.{goes_expect, goes_seq, goes_push, goes_map, goes_node}
-use Rattle.syntax.proofs.Lays.{leaf_lays, binary_lays, passed_both, lays_more, lays_close, lays_paid, passed_none, entry_same}
+use Rattle.std.proofs.Common.{refl, sym, ap, arith, ◌∙◌, ◌-◌}
+use Rattle.syntax.proofs.Joins.{did, did_expect, did_map, did_node, did_push, did_seq, did_turned, fails, fails_expect, fails_first, fails_node, fails_then, fails_turn, goes_ok, goes_out, keeps_both, length_is, place_is, rooted}
+use Rattle.syntax.proofs.Lays.{binary_lays, entry_same, lays_close, lays_paid, passed_both, passed_none}
 use Rattle.parser.proofs.declarations.module.Goals as goal
+
+pub returns-in_err-expect : goal.returns-in_err-expect
+returns-in_err-expect c = goes_out c.from_residual.ensures.1 (fails_node (fails_first (fails_expect c.in_err-expect.ensures)))
+
+pub returns-in_err-name : goal.returns-in_err-name
+returns-in_err-name c = goes_out c.from_residual-in_err-name.ensures.1 (fails_node (fails_then (did_expect c.in_ok-expect.ensures) (fails_first (fails_expect c.in_err-name.ensures))))
+
+pub returns-in_err-expect-2 : goal.returns-in_err-expect-2
+returns-in_err-expect-2 c = goes_out c.from_residual-in_err-expect-2.ensures.1 (fails_node (fails_then (did_expect c.in_ok-expect.ensures) (fails_then (did_expect c.in_ok-name.ensures) (fails_first (fails_expect c.in_err-expect-2.ensures)))))
+
+pub returns-in_err-list : goal.returns-in_err-list
+returns-in_err-list c = goes_out c.from_residual-in_err-list.ensures.1 (fails_node (fails_then (did_expect c.in_ok-expect.ensures) (fails_then (did_expect c.in_ok-name.ensures) (fails_then (did_expect c.in_ok-expect-2.ensures) (fails_first (fails c.in_err-list.ensures))))))
+
+pub returns-in_err-inner : goal.returns-in_err-inner
+returns-in_err-inner c = goes_out c.from_residual-in_err-inner.ensures.1 (fails_node (fails_then (did_expect c.in_ok-expect.ensures) (fails_then (did_expect c.in_ok-name.ensures) (fails_then (did_expect c.in_ok-expect-2.ensures) (fails_then (did c.in_ok-list.ensures) (fails_turn (fails_first (fails c.in_err-inner.ensures))))))))
+
+pub returns-in_err-expect-3 : goal.returns-in_err-expect-3
+returns-in_err-expect-3 c = goes_out c.from_residual-in_err-expect-3.ensures.1 (fails_node (fails_then (did_expect c.in_ok-expect.ensures) (fails_then (did_expect c.in_ok-name.ensures) (fails_then (did_expect c.in_ok-expect-2.ensures) (fails_then (did c.in_ok-list.ensures) (fails_turn (fails_then (did c.in_ok-inner.ensures) (fails_expect c.in_err-expect-3.ensures))))))))
 
 pub returns : goal.returns
 returns c =
-    let s = c.args.source.now in
-    let rs = c.args.symbols.now in
-    goes_node _ _ (goes_map _ _
-    (λ c₀ c₂ t₂ v q g x.
+    let n = c.in_ok-name.ensures in
+    goes_ok c.push.ensures.is (did_node (did_map
+    (λ v g x.
     let a = x.one in
     let b = a.two in
     let l = b.two in
     let m = l.two in
-    let y = m.two in
-    let z = y.two in
-    let pl : c.next_place-place.result ≡ place_of rs v.1.0 = c.next_place-place.ensures ∙ ap (next_place rs) a.came ∙ ap (place_of rs) (sym b.one.index) in
-    let ds = lays_more {k = 0} {m = 0} (leaf_lays {n = 0} (label kind.Empty EndOfSource 0 0) l.one.one.passed c.bare.ensures l.one.two) m.one in
-    let bd = lays_close {n = 1} (lays_more {k = 0} {m = 0} y.one z.one) z.two.passed 0 (omega arith) in
-    lays_paid (passed_both a.one.passed b.one.passed)
-    (binary_lays {n = 0} ds passed_none bd x.two
-    (entry_same c.node.ensures refl pl (c.word_length-length.ensures.is ∙ ap (word_length s) pl) (c.root.ensures ∙ ap last_root m.came) (c.root-2.ensures ∙ ap last_root z.came ∙ ap (λ n. n - 1) (sym z.two.passed.used))) 1 (omega arith)) 0 (omega arith))
-    (goes_push _ _ (goes_seq _ _ (goes_expect _ _ c.expect-begun.ensures) (goes_seq _ _ (goes_expect _ _ c.expect-named.ensures)
-    (goes_seq _ _ (goes_push _ _ (goes_expect _ _ c.expect-listed.ensures) c.push-list.ensures) (goes_seq _ _ c.declarations-decls.ensures (goes_seq _ _ c.body-inner.ensures
-    (goes_seq _ _ (c.closing-closed.ensures _ _) (goes_expect _ _ c.expect-ended.ensures))))))) c.push.ensures))
+    let t = m.two in
+    lays_paid (passed_both (passed_both a.one.passed b.one.passed) l.one.passed)
+    (binary_lays {n = 0} m.one passed_none (lays_close {n = 1} t.one t.two.passed 0 (omega arith)) x.two
+    (entry_same c.node.ensures refl (place_is b.one) (length_is (keeps_both c.in_ok-expect.ensures.1.keeps n.1.keeps) b.one c.word_length-length.ensures) (rooted c.in_ok-list.ensures) (rooted c.in_ok-inner.ensures ∙ ap (λ n. n - 1) (sym t.two.passed.used))) 2 (omega arith)) 0 (omega arith))
+    (did_push (did_seq (did_expect c.in_ok-expect.ensures) (did_seq (did_expect c.in_ok-name.ensures) (did_seq (did_expect c.in_ok-expect-2.ensures) (did_seq (did c.in_ok-list.ensures) (did_turned (did_seq (did c.in_ok-inner.ensures) (did_expect c.in_ok-expect-3.ensures))))))) c.push.ensures)))

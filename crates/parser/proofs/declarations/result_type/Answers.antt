@@ -1,25 +1,17 @@
-use Rattle.std.proofs.Common.{[], ◌∷◌, ap, rules}
-use Rattle.grammar.specs.Codes.{code}
-use Rattle.vocabulary.specs.declared.tag.Tag.TheVariants.{EndOfSource}
-use Rattle.syntax.specs.declared.tree.NodeKind.TheVariants as kind
-use Rattle.syntax.specs.Symbols.{tag_codes}
-use Rattle.syntax.specs.Syntax.{label}
+use Rattle.std.proofs.Common.{refl, ap}
 use Rattle.syntax.specs.Actions.{result_type}
-use Rattle.syntax.proofs.Goes.{On, on_by, off_by, goes_on, goes_seq, goes_inl, goes_inr, goes_none, goes_push, goes_map}
-use Rattle.syntax.proofs.Lays.{lays_as, lays_passed, lays_lift, leaf_adds}
+use Rattle.syntax.proofs.Joins.{did_inl, did_map, did_on, did_seq, fails_left, fails_then, goes_as}
+use Rattle.syntax.proofs.Lays.{lays_as, lays_lift, lays_passed}
+use Rattle.syntax.proofs.Parts.{goes_empty}
 use Rattle.parser.proofs.declarations.result_type.Goals as goal
 
-pub returns-in-Colon : goal.returns-in-Colon
-returns-in-Colon c d e =
-    let s = c.args.source.now in
-    let rs = c.args.symbols.now in
-    let o : On (tag_codes rs) c.args.before (57 ∷ []) = on_by 57 c.in-Colon.ensures.coded tt tt in
-    goes_map _ _ (λ c₀ c₂ t₂ v q g x. lays_as (ap (result_type s rs) x.is) (lays_lift 1 (lays_passed x.wrote.one.passed x.wrote.two)))
-    (goes_inl _ _ o (goes_seq _ _ (goes_on _ _ c.advance.ensures o) (c.name.ensures d e)))
+pub returns-then-accept : goal.returns-then-accept
+returns-then-accept c d e =
+    let s = c.args.descent.now.source.now in
+    let rs = c.args.descent.now.symbols.now in
+    let h = c.if-accept.ensures in
+    goes_as (λ a. did_map (λ v g x. lays_as (ap (result_type s rs) x.is) (lays_lift 1 (lays_passed x.wrote.one.passed x.wrote.two))) (did_inl h.0 (did_seq (did_on h.1 h.0) a)))
+    (λ z a. fails_left h.0 (fails_then (did_on h.1 h.0) a)) (c.name.ensures d e)
 
-pub returns-in_default : goal.returns-in_default
-returns-in_default c d e =
-    let s = c.args.source.now in
-    let rs = c.args.symbols.now in
-    goes_map _ _ (λ c₀ c₂ t₂ v q g x. lays_as (ap (result_type s rs) x.one.is) (leaf_adds (label kind.Empty EndOfSource 0 0) x.one.wrote c.bare.ensures x.two))
-    (goes_push _ _ (goes_inr _ _ (off_by (code c.next.result) c.next.ensures.coded tt (search rules)) (goes_none _ _)) c.push.ensures)
+pub returns-else-accept : goal.returns-else-accept
+returns-else-accept c d e = let h = c.if-accept.ensures in goes_empty h.0 h.1 c.push.ensures c.bare.ensures (λ s rs. refl)

@@ -1,12 +1,13 @@
-use Rattle.std.proofs.Common.{rules}
-use Rattle.grammar.specs.Codes.{code}
-use Rattle.syntax.proofs.Goes.{on_by, off_by, goes_node, goes_left, goes_right}
+use Rattle.std.proofs.Common.{}
+use Rattle.syntax.proofs.Joins.{did_left, did_node, did_right, fails_left, fails_node, fails_right, goes_as}
 use Rattle.parser.proofs.declarations.type_of.Goals as goal
 
-pub returns-in-Identifier : goal.returns-in-Identifier
-returns-in-Identifier c d e =
-    goes_node _ _ (goes_left _ _ (on_by 41 c.in-Identifier.ensures.coded tt tt) (c.name.ensures d e))
+pub returns-then-is_next : goal.returns-then-is_next
+returns-then-is_next c d e =
+    let h = c.if-is_next.ensures in
+    goes_as (λ a. did_node (did_left h a)) (λ z a. fails_node (fails_left h a)) (c.name.ensures d e)
 
-pub returns-in_default : goal.returns-in_default
-returns-in_default c d e =
-    goes_node _ _ (goes_right _ _ (off_by (code c.next.result) c.next.ensures.coded tt (search rules)) (c.array.ensures d e))
+pub returns-else-is_next : goal.returns-else-is_next
+returns-else-is_next c d e =
+    let h = c.if-is_next.ensures in
+    goes_as (λ a. did_node (did_right h a)) (λ z a. fails_node (fails_right h a)) (c.array.ensures d e)

@@ -1,15 +1,16 @@
-use Rattle.std.proofs.Common.{◌≡◌, ℕ, ◌⊎◌, List, sym, refl, ap, ◌∙◌, ap₂, inl, inr, arith, rules}
+use Rattle.std.proofs.Common.{refl, sym, ap, arith, rules, inl, inr, ◌∙◌, ◌≡◌, ◌∷◌, [], ◌⊎◌, List, ℕ}
 use Rattle.grammar.specs.Codes.{code}
 use Rattle.grammar.specs.Language.{Action}
-use Rattle.vocabulary.specs.declared.tag.Tag.TheVariants.{EndOfSource}
-use Rattle.syntax.specs.declared.tree.NodeKind.TheVariants as kind
-use Rattle.syntax.specs.Symbols.{next_place, place_of, word_length, last_root}
-use Rattle.syntax.specs.Syntax.{Syntax, label}
 use Rattle.syntax.specs.Actions.{act}
-use Rattle.syntax.proofs.Goes.{on_by, off_by, goes_expect, goes_seq, goes_inl, goes_inr, goes_none, goes_push, goes_map, goes_node}
-use Rattle.syntax.proofs.Lays.{lays_as, unary_lays, lays_passed, leaf_adds, passed_none, entry_same}
 use Rattle.syntax.specs.Forms.{assigned}
+use Rattle.syntax.specs.Steps.{On, Off}
+use Rattle.syntax.specs.Symbols.{word_length, place_of}
+use Rattle.std.proofs.Common.{T}
 use Rattle.lexer.specs.declared.symbol.SymbolRecord.{SymbolRecord}
+use Rattle.grammar.specs.Ebnf.{mem}
+use Rattle.syntax.specs.Syntax.{Syntax}
+use Rattle.syntax.proofs.Joins.{did, did_expect, did_inl, did_inr, did_map, did_node, did_push, did_seq, fails, fails_expect, fails_first, fails_left, fails_node, fails_right, fails_then, goes_as, goes_ok, goes_out, length_is, off_by, on_by, place_is, rooted}
+use Rattle.syntax.proofs.Lays.{entry_same, lays_as, lays_passed, passed_none, unary_lays}
 use Rattle.parser.proofs.statements.action.Goals as goal
 
 -- an assignment to a name
@@ -17,57 +18,41 @@ assigned_is : (s : List ℕ) (rs : List SymbolRecord) (i : ℕ) (v : (Syntax ⊎
 assigned_is s rs i (inl x, p) = refl
 assigned_is s rs i (inr u, p) = refl
 
+pub returns-in_err-name : goal.returns-in_err-name
+returns-in_err-name c e = goes_out c.from_residual.ensures.1 (fails_node (fails_first (fails_expect c.in_err-name.ensures)))
+
 pub returns-in-OpenSquare : goal.returns-in-OpenSquare
 returns-in-OpenSquare c e =
-    let s = c.args.source.now in
-    let rs = c.args.symbols.now in
-    let k = c.in-OpenSquare.ensures.coded in
-    goes_node _ _ (goes_map _ _
-    (λ c₀ c₂ t₂ v q g x.
+    let s = c.args.descent.now.source.now in
+    let rs = c.args.descent.now.symbols.now in
+    let m : T (mem (code c.next.result) (60 ∷ (52 ∷ []))) = elim c.in-OpenSquare.is [ inl h ↦ rw h tt | inr h ↦ rw h tt ] in
+    let n = c.in_ok-name.ensures in
+    let o : On c.expect.new.self (60 ∷ (52 ∷ [])) = on_by (code c.next.result) c.next.ensures.coded tt m in
+    goes_as
+    (λ a. did_node (did_map
+    (λ v g x.
     let y = x.two in
-    let pl : c.next_place-place.result ≡ place_of rs v.0 = c.next_place-place.ensures ∙ ap (next_place rs) q ∙ ap (place_of rs) (sym x.one.index) in
-    lays_as (ap (λ z. act s rs Action (v.0, z)) y.is ∙ sym (ap₂ (λ p l. assigned s rs p l y.part) pl (c.word_length-length.ensures.is ∙ ap (word_length s) pl) ∙ assigned_is s rs v.0 y.part))
-    (lays_passed x.one.passed y.wrote))
-    (goes_seq _ _ (goes_expect _ _ c.expect-named.ensures) (goes_inl _ _ (on_by 60 k tt tt) (c.assignment.ensures e))))
+    lays_as (ap (λ z. act s rs Action (v.0, z)) y.is ∙ sym (ap (λ r. assigned s rs r.place (word_length s r.place) y.part) x.one.symbol ∙ assigned_is s rs v.0 y.part)) (lays_passed x.one.passed y.wrote))
+    (did_seq (did_expect n) (did_inl o a))))
+    (λ z a. fails_node (fails_then (did_expect n) (fails_left o a))) (c.assignment.ensures e)
 
-pub returns-in-Becomes : goal.returns-in-Becomes
-returns-in-Becomes c e =
-    let s = c.args.source.now in
-    let rs = c.args.symbols.now in
-    let k = c.in-Becomes.ensures.coded in
-    goes_node _ _ (goes_map _ _
-    (λ c₀ c₂ t₂ v q g x.
-    let y = x.two in
-    let pl : c.next_place-place.result ≡ place_of rs v.0 = c.next_place-place.ensures ∙ ap (next_place rs) q ∙ ap (place_of rs) (sym x.one.index) in
-    lays_as (ap (λ z. act s rs Action (v.0, z)) y.is ∙ sym (ap₂ (λ p l. assigned s rs p l y.part) pl (c.word_length-length.ensures.is ∙ ap (word_length s) pl) ∙ assigned_is s rs v.0 y.part))
-    (lays_passed x.one.passed y.wrote))
-    (goes_seq _ _ (goes_expect _ _ c.expect-named.ensures) (goes_inl _ _ (on_by 52 k tt tt) (c.assignment-in-Becomes.ensures e))))
+pub returns-in_err-part-in_default : goal.returns-in_err-part-in_default
+returns-in_err-part-in_default c e =
+    let o : Off c.expect.new.self (60 ∷ (52 ∷ [])) = off_by (code c.next.result) c.next.ensures.coded tt (search rules) in
+    goes_out c.from_residual-in_err-part-in_default.ensures.1 (fails_node (fails_then (did_expect c.in_ok-name.ensures) (fails_right o (fails (c.in_err-part-in_default.ensures e)))))
 
-pub returns-in-OpenRound : goal.returns-in-OpenRound
-returns-in-OpenRound c e =
-    let s = c.args.source.now in
-    let rs = c.args.symbols.now in
-    let k = c.in-OpenRound.ensures.coded in
-    goes_node _ _ (goes_map _ _
-    (λ c₀ c₂ t₂ v q g x.
+pub returns-in_ok-part-in_default : goal.returns-in_ok-part-in_default
+returns-in_ok-part-in_default c e =
+    let s = c.args.descent.now.source.now in
+    let rs = c.args.descent.now.symbols.now in
+    let o : Off c.expect.new.self (60 ∷ (52 ∷ [])) = off_by (code c.next.result) c.next.ensures.coded tt (search rules) in
+    let n = c.in_ok-name.ensures in
+    let a = c.in_ok-part-in_default.ensures e in
+    goes_ok c.push.ensures.is (did_node (did_map
+    (λ v g x.
     let y = x.one in
-    let z = y.two.wrote in
-    let pl : c.next_place-place.result ≡ place_of rs v.0 = c.next_place-place.ensures ∙ ap (next_place rs) q ∙ ap (place_of rs) (sym y.one.index) in
-    lays_as (ap (λ a. act s rs Action (v.0, a)) (y.two.is ∙ ap inr z.is))
+    let z = y.two in
+    lays_as (ap (λ q. act s rs Action (v.0, q)) z.is)
     (unary_lays {m = 1} {n = 0} y.one.passed z.wrote passed_none x.two
-    (entry_same c.node.ensures refl pl (c.word_length-length.ensures.is ∙ ap (word_length s) pl) (c.root.ensures ∙ ap last_root x.came) refl) 0 (omega arith)))
-    (goes_push _ _ (goes_seq _ _ (goes_expect _ _ c.expect-named.ensures) (goes_inr _ _ (off_by 58 k tt tt) (goes_inl _ _ (on_by 58 k tt tt) (c.args-part.ensures e)))) c.push.ensures))
-
-pub returns-in_default : goal.returns-in_default
-returns-in_default c e =
-    let s = c.args.source.now in
-    let rs = c.args.symbols.now in
-    goes_node _ _ (goes_map _ _
-    (λ c₀ c₂ t₂ v q g x.
-    let y = x.one in
-    let z = y.two.wrote in
-    let pl : c.next_place-place.result ≡ place_of rs v.0 = c.next_place-place.ensures ∙ ap (next_place rs) q ∙ ap (place_of rs) (sym y.one.index) in
-    lays_as (ap (λ a. act s rs Action (v.0, a)) (y.two.is ∙ ap inr z.one.is))
-    (unary_lays {m = 1} {n = 0} y.one.passed (leaf_adds (label kind.Empty EndOfSource 0 0) z.one.wrote c.bare.ensures z.two) passed_none x.two
-    (entry_same c.node-in_default.ensures refl pl (c.word_length-length.ensures.is ∙ ap (word_length s) pl) (c.root-in_default.ensures ∙ ap last_root x.came) refl) 0 (omega arith)))
-    (goes_push _ _ (goes_seq _ _ (goes_expect _ _ c.expect-named.ensures) (goes_inr _ _ (off_by (code c.next.result) c.next.ensures.coded tt (search rules)) (goes_push _ _ (goes_inr _ _ (off_by (code c.next.result) c.next.ensures.coded tt (search rules)) (goes_none _ _)) c.push-part.ensures))) c.push-in_default.ensures))
+    (entry_same c.node.ensures refl (place_is y.one) (length_is n.1.keeps y.one c.word_length-length.ensures) (rooted a) refl) 0 (omega arith)))
+    (did_push (did_seq (did_expect n) (did_inr o (did a))) c.push.ensures)))

@@ -1,16 +1,18 @@
-use Rattle.std.proofs.Common.{sym, refl, ap, ◌∙◌, arith}
-use Rattle.syntax.specs.Symbols.{next_place, place_of, last_root}
-use Rattle.syntax.proofs.Goes.{goes_expect, goes_seq, goes_push, goes_map, goes_node}
-use Rattle.syntax.proofs.Lays.{unary_lays, passed_none, entry_same}
+use Rattle.std.proofs.Common.{refl, arith}
+use Rattle.syntax.proofs.Joins.{did, did_expect, did_map, did_node, did_push, did_seq, fails, fails_expect, fails_first, fails_node, fails_then, goes_ok, goes_out, place_is, rooted}
+use Rattle.syntax.proofs.Lays.{entry_same, passed_none, unary_lays}
 use Rattle.parser.proofs.statements.return_statement.Goals as goal
+
+pub returns-in_err-word : goal.returns-in_err-word
+returns-in_err-word c e = goes_out c.from_residual.ensures.1 (fails_node (fails_first (fails_expect c.in_err-word.ensures)))
+
+pub returns-in_err-value : goal.returns-in_err-value
+returns-in_err-value c e = goes_out c.from_residual-in_err-value.ensures.1 (fails_node (fails_then (did_expect c.in_ok-word.ensures) (fails (c.in_err-value.ensures e))))
 
 pub returns : goal.returns
 returns c e =
-    let s = c.args.source.now in
-    let rs = c.args.symbols.now in
-    goes_node _ _ (goes_map _ _
-    (λ c₀ c₂ t₂ v q g x.
+    goes_ok c.push.ensures.is (did_node (did_map
+    (λ v g x.
     let y = x.one in
-    unary_lays {m = 1} {n = 0} y.one.passed y.two passed_none x.two
-    (entry_same c.node.ensures refl (c.next_place-place.ensures ∙ ap (next_place rs) q ∙ ap (place_of rs) (sym y.one.index)) refl (c.root.ensures ∙ ap last_root x.came) refl) 0 (omega arith))
-    (goes_push _ _ (goes_seq _ _ (goes_expect _ _ c.expect-begun.ensures) (c.returned-value.ensures e)) c.push.ensures))
+    unary_lays {m = 1} {n = 0} y.one.passed y.two passed_none x.two (entry_same c.node.ensures refl (place_is y.one) refl (rooted (c.in_ok-value.ensures e)) refl) 0 (omega arith))
+    (did_push (did_seq (did_expect c.in_ok-word.ensures) (did (c.in_ok-value.ensures e))) c.push.ensures)))

@@ -2,17 +2,16 @@ use Rattle.std.proofs.Common.{◌≡◌, ℕ, ◌-◌, ◌⊎◌, List, [], ◌�
 use Rattle.vocabulary.specs.declared.tag.Tag.TheVariants.{EndOfSource}
 use Rattle.grammar.specs.Codes.{code}
 use Rattle.grammar.specs.Language.{Expr}
-use Rattle.grammar.specs.Sets.{firsts}
 use Rattle.lexer.specs.declared.symbol.SymbolRecord.{SymbolRecord}
 use Rattle.syntax.specs.declared.tree.NodeKind.TheVariants as kind
 use Rattle.syntax.specs.Symbols.{place_of, word_length}
 use Rattle.syntax.specs.Syntax.{Syntax, label}
-use Rattle.syntax.specs.Actions.{act, separated, signed, designator}
+use Rattle.syntax.specs.Actions.{act, signed, designator}
 use Rattle.syntax.specs.Forms.{selected, relations, additions, multiplications, signs}
 use Rattle.syntax.specs.Steps.{On, Off, root}
-use Rattle.syntax.proofs.Joins.{did, fails, rooted, goes_as, goes_ok, goes_out, did_map, did_node, did_left, did_right, did_inl, did_inr, did_none, did_skip, did_turn, did_seq, did_on, did_expect, did_around, did_push, did_keeps, did_shrinks, on_falls, fails_first, fails_then, fails_left, fails_right, fails_node, fails_turn, fails_cons, fails_pushed, fails_expect, fails_open, fails_around, tag_is, place_is, on_by, off_by, on_class, off_class}
-use Rattle.syntax.proofs.Lays.{lays_as, lays_lift, lays_more, lays_passed, lays_close, lays_spend, leaf_adds, unary_lays, binary_lays, extends_join, extends_item, passed_none, entry_same}
-use Rattle.syntax.proofs.Loops.{leads_item, leads_end}
+use Rattle.syntax.proofs.Joins.{did, fails, rooted, goes_as, goes_ok, goes_out, did_map, did_node, did_left, did_right, did_inl, did_inr, did_none, did_turn, did_seq, did_on, did_expect, did_around, did_push, did_keeps, did_shrinks, on_falls, fails_first, fails_then, fails_left, fails_right, fails_node, fails_turn, fails_cons, fails_expect, fails_open, fails_around, tag_is, place_is, on_by, off_by, on_class, off_class}
+use Rattle.syntax.proofs.Lays.{lays_as, lays_more, lays_passed, lays_close, lays_spend, leaf_adds, unary_lays, binary_lays, extends_item, passed_none, entry_same}
+use Rattle.syntax.proofs.Parts.{leads_item, leads_end, leads_first, leads_next, fails_items, fails_next, next_falls, goes_no_items}
 use Rattle.syntax.proofs.step.Descent.+expressions.Goals as goal
 
 -- a name and what stands behind it
@@ -350,35 +349,16 @@ args-returns t c e =
     (did_around c.in_ok-inside.ensures (did_seq (did a) (did_expect c.in_ok-expect.ensures)))))
 
 pub arguments-returns-then-not-begins_expr : goal.arguments-returns-then-not-begins_expr
-arguments-returns-then-not-begins_expr t c e =
-    let s = c.args.self.now.source.now in
-    let rs = c.args.self.now.symbols.now in
-    goes_ok c.push-all.ensures.is (did_map
-    (λ v g x. lays_as (ap (separated s rs) x.two.is) (lays_lift 1 (lays_close (leaf_adds (label kind.Empty EndOfSource 0 0) x.one.one c.bare.ensures x.one.two) x.two.wrote 1 (omega arith))))
-    (did_skip (did_seq (did_push (did_none refl) c.push-all.ensures) (did_inr (off_class c.next.ensures.coded c.begins_expr.ensures c.if-not-begins_expr.true tt) (did_none refl)))))
+arguments-returns-then-not-begins_expr t c e = goes_no_items c.push-all.ensures c.bare.ensures (off_class c.next.ensures.coded c.begins_expr.ensures c.if-not-begins_expr.true tt)
 
 pub arguments-returns-in_err-first : goal.arguments-returns-in_err-first
 arguments-returns-in_err-first t c e =
-    let o : On c.push-all.new.self (firsts Expr) = on_class c.next.ensures.coded c.begins_expr.ensures c.if-not-begins_expr.false tt in
-    goes_out c.from_residual.ensures.1 (fails_pushed c.push-all.ensures (fails_left o (fails_first (fails (c.in_err-first.ensures e)))))
+    goes_out c.from_residual.ensures.1 (fails_items c.push-all.ensures (on_class c.next.ensures.coded c.begins_expr.ensures c.if-not-begins_expr.false tt) (fails (c.in_err-first.ensures e)))
 
 pub arguments-loop-self-init : goal.arguments-loop-self-init
 arguments-loop-self-init t c =
-    let s = c.args.self.now.source.now in
-    let rs = c.args.self.now.symbols.now in
-    let o : On c.push-all.new.self (firsts Expr) = on_class c.next.ensures.coded c.begins_expr.ensures c.if-not-begins_expr.false tt in
     record {
-      leads = λ e.
-          let a = c.in_ok-first.ensures e in
-          record {
-            on = λ p' b. did_map
-                (λ v g x.
-                let y = x.two.wrote in
-                lays_as (ap (separated s rs) x.two.is) (lays_more {k = 1} {m = 1} (leaf_adds (label kind.Empty EndOfSource 0 0) x.one.one c.bare.ensures x.one.two)
-                (extends_join {n = 0} passed_none y.one.one y.one.two (entry_same c.bare-2.ensures refl refl refl c.push-all.ensures.is (rooted a)) y.two 1 (omega arith))))
-                (did_skip (did_seq (did_push (did_none refl) c.push-all.ensures) (did_inl o (did_seq (did_push (did a) c.push-all-2.ensures) b))));
-            off = λ k p' b. fails_pushed c.push-all.ensures (fails_left o (fails_then (did_push (did a) c.push-all-2.ensures) b));
-          };
+      leads = λ e. leads_first c.push-all.ensures c.bare.ensures (on_class c.next.ensures.coded c.begins_expr.ensures c.if-not-begins_expr.false tt) (c.in_ok-first.ensures e) c.push-all-2.ensures c.bare-2.ensures;
       all = c.push-all-2.ensures.is;
       left =
           let h = did_keeps (did_push (did_none {d = 0} {e = 0} refl) c.push-all.ensures) in
@@ -387,31 +367,18 @@ arguments-loop-self-init t c =
     }
 
 pub arguments-returns-in_err-item : goal.arguments-returns-in_err-item
-arguments-returns-in_err-item t c e =
-    let h = c.loop-self-test.ensures in
-    let i = c.loop-self.invariant.leads e in
-    goes_out c.from_residual-in_err-item.ensures.1 (i.off _ _ (fails_cons h.0 (fails_first (fails_then (did_on h.1 h.0) (fails (c.in_err-item.ensures e))))))
+arguments-returns-in_err-item t c e = goes_out c.from_residual-in_err-item.ensures.1 (fails_next (c.loop-self.invariant.leads e) c.loop-self-test.ensures (fails (c.in_err-item.ensures e)))
 
 pub arguments-loop-self-smaller : goal.arguments-loop-self-smaller
-arguments-loop-self-smaller t c =
-    let h = c.loop-self-test.ensures in
-    did_shrinks tt h.0 (did_push (did_seq (did_on {e = 0} h.1 h.0) (did (c.in_ok-item.ensures 0))) c.push-all-in-loop-self.ensures)
+arguments-loop-self-smaller t c = next_falls c.loop-self-test.ensures (c.in_ok-item.ensures 0) c.push-all-in-loop-self.ensures
 
 pub arguments-loop-self-preserved : goal.arguments-loop-self-preserved
 arguments-loop-self-preserved t c =
-    let h = c.loop-self-test.ensures in
     let i = c.loop-self.invariant in
     record {
-      leads = λ e.
-          let a = c.in_ok-item.ensures e in
-          leads_item (i.leads e) h.0 (did_map
-          (λ v g x. extends_item x.one.one.passed x.one.two x.two (entry_same c.bare-in-loop-self.ensures refl refl refl i.all (rooted a)) 0 (omega arith))
-          (did_push (did_seq (did_on h.1 h.0) (did a)) c.push-all-in-loop-self.ensures));
+      leads = λ e. leads_next (i.leads e) c.loop-self-test.ensures (c.in_ok-item.ensures e) c.push-all-in-loop-self.ensures c.bare-in-loop-self.ensures i.all (omega arith);
       all = c.push-all-in-loop-self.ensures.is;
-      left =
-          let l = i.left in
-          let j = did_keeps (did_push (did_seq (did_on {e = 0} h.1 h.0) (did (c.in_ok-item.ensures 0))) c.push-all-in-loop-self.ensures) in
-          omega arith;
+      left = let h = i.left in let j = next_falls c.loop-self-test.ensures (c.in_ok-item.ensures 0) c.push-all-in-loop-self.ensures in omega arith;
     }
 
 pub arguments-returns : goal.arguments-returns

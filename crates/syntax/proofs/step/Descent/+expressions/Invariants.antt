@@ -7,7 +7,7 @@ use Rattle.syntax.specs.Forms.{comma_expr, add_term, multiply_factor}
 use Rattle.syntax.specs.Steps.{root, remaining}
 use Rattle.syntax.specs.Post.{Lays}
 use Rattle.syntax.proofs.Joins.{Leads}
-use Rattle.syntax.proofs.Loops.{Chains}
+use Rattle.syntax.proofs.Parts.{Chains}
 use Rattle.syntax.proofs.step.Descent.+expressions.Given as goal
 
 abbrev pub decreases-expr : goal.decreases-expr

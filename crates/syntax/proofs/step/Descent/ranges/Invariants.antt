@@ -7,7 +7,7 @@ use Rattle.syntax.specs.Steps.{root, remaining}
 use Rattle.syntax.specs.Post.{Lays}
 use Rattle.syntax.specs.declared.tree.NodeKind.TheVariants as kind
 use Rattle.syntax.proofs.Joins.{Leads}
-use Rattle.syntax.proofs.Loops.{Chains}
+use Rattle.syntax.proofs.Parts.{Chains}
 use Rattle.syntax.proofs.step.Descent.ranges.Given as goal
 
 abbrev pub invariant-loop-self : goal.invariant-loop-self
