@@ -64,6 +64,7 @@ pub fn write_line(heap: Global, index: u16, i: Instruction) -> Result<String, Al
 {
     let operand = i.operand;
     let place = i.place;
+    // A Display of operations would hold this match and no more, and nothing else would use it.
     match i.operation {
         Operation::Other(n) => format!(in heap; "{index} {n} {operand} {place}"),
         operation => format!(in heap; "{index} {} {operand} {place}", name(operation)),
