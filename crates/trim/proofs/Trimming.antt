@@ -3,7 +3,7 @@ use Rattle.std.proofs.Common.{◌≡◌, ℕ, Bool, true, false, cond, ltb, List
 use lib.ListN.{length-map}
 use Rattle.std.proofs.lemmas.List.{map_push}
 use Rattle.ports.specs.Channels.{Channel, Meaning, channels, holding}
-use Rattle.ports.specs.Calls.{room, fed, oldest, newer, feed_answer, feed_after, take_answer, take_after, set_after, look_answer}
+use Rattle.ports.specs.Calls.{room, fed, oldest, newer, feed_after, take_answer, take_after, set_after, look_answer}
 use Rattle.ports.specs.Stored.{stored}
 use Rattle.ports.proofs.Layering.{layer_changed}
 use Rattle.trim.specs.Trims.{less, trim_channel, trimmed}
