@@ -52,9 +52,7 @@ pub fn decode(heap: Global, line: &[u8]) -> Result<Vec<u8>, AllocError> {
     let mut bytes = Vec::new(heap);
     let mut rest = line;
     while let Some(escape) = first_escape(rest) {
-        for _ in 0..escape.copies {
-            bytes.push(escape.byte)?;
-        }
+        bytes.resize(bytes.len().saturating_add(escape.copies), escape.byte)?;
         rest = escape.behind;
     }
     Ok(bytes)

@@ -123,10 +123,8 @@ impl Descent<'_> {
         if !self.is_next(tag) {
             return Err(self.impossible());
         }
-        match room.checked_sub(1) {
-            Some(inside) => Ok((self.advance(), inside)),
-            None => Err(Stop::TooDeep(self.here.at)),
-        }
+        let inside = room.checked_sub(1).ok_or(Stop::TooDeep(self.here.at))?;
+        Ok((self.advance(), inside))
     }
 
     /// How far it has come, if no symbol is left.
