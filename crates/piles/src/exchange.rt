@@ -5,6 +5,17 @@ use ports::refusal::Refusal;
 use ports::sample::Sample;
 use ports::seen::Seen;
 
+/// What an exchange hands to a channel.
+#[derive(Clone, Copy)]
+pub struct Handed {
+    /// The channel.
+    pub channel: u8,
+    /// The value that is fed.
+    pub fed: Sample,
+    /// The value that is set.
+    pub set: Sample,
+}
+
 /// What came of an exchange.
 #[derive(Clone, Copy)]
 pub struct Exchanged {
@@ -14,13 +25,14 @@ pub struct Exchanged {
     pub taken: Option<Sample>,
 }
 
-/// Feeds `v` and sets `w`, looks and takes, all on channel `c`.
-pub fn exchange<P: Port>(port: &mut P, c: u8, v: Sample, w: Sample) -> Result<Exchanged, Refusal>
-    ensures { Exchanges (P.Port.meaning port.old) c v w result }
+/// Feeds a value and sets one, looks and takes, all on one channel.
+pub fn exchange<P: Port>(port: &mut P, handed: Handed) -> Result<Exchanged, Refusal>
+    ensures { Exchanges (P.Port.meaning port.old) handed result }
 {
-    port.feed(c, v)?;
-    port.set(c, w)?;
-    let seen = port.look(c)?;
-    let taken = port.take(c)?;
+    let Handed { channel, fed, set } = handed;
+    port.feed(channel, fed)?;
+    port.set(channel, set)?;
+    let seen = port.look(channel)?;
+    let taken = port.take(channel)?;
     Ok(Exchanged { seen, taken })
 }

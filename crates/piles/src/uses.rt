@@ -1,14 +1,14 @@
 ghost use Rattle.std.specs.Prelude.{◌≡◌, length};
 ghost use Rattle.piles.specs.Exchanges.{Exchanges};
-ghost use Rattle.piles.specs.Piles.{paired};
+ghost use Rattle.piles.specs.Piles.{piled};
 ghost use Rattle.ports.specs.Calls.{feed_answer, feed_after, look_answer};
 ghost use Rattle.ports.specs.Layers.{blank};
 ghost use Rattle.ports.specs.Refusals.{numbered};
 ghost use Rattle.queue.specs.Queued.{share};
 
-use crate::exchange::{Exchanged, exchange};
+use crate::exchange::{Exchanged, Handed, exchange};
 use crate::holder::Holder;
-use crate::layer::Layer;
+use crate::layer::Layers;
 use crate::pile::pair;
 use latch::Latch;
 use ports::port::Port;
@@ -22,16 +22,14 @@ use trim::offsets::Offsets;
 /// An exchange through a pile of four over any port.
 pub fn through_four<P: Port + Drop>(
     lower: P,
-    high: Layer,
-    low: Layer,
-    c: u8,
-    v: Sample,
-    w: Sample,
+    layers: Layers,
+    handed: Handed,
 ) -> Result<Exchanged, Refusal>
-    ensures { Exchanges (paired high (paired low (P.Port.meaning lower))) c v w result }
+    ensures { Exchanges (piled layers (P.Port.meaning lower)) handed result }
 {
+    let Layers { high, low } = layers;
     let mut port = pair(pair(lower, low), high);
-    exchange(&mut port, c, v, w)
+    exchange(&mut port, handed)
 }
 
 // A pile over a make, owned and lent, is a type of its own: these four state the law of `through_four` at each.
@@ -39,70 +37,52 @@ pub fn through_four<P: Port + Drop>(
 /// Through a pile that owns a queue.
 pub fn over_queue(
     memory: &mut [Sample],
-    high: Layer,
-    low: Layer,
-    c: u8,
-    v: Sample,
-    w: Sample,
+    layers: Layers,
+    handed: Handed,
 ) -> Result<Exchanged, Refusal>
-    ensures { Exchanges (paired high (paired low (blank (share (length memory.old))))) c v w result }
+    ensures { Exchanges (piled layers (blank (share (length memory.old)))) handed result }
 {
-    through_four(Queue::new(memory), high, low, c, v, w)
+    through_four(Queue::new(memory), layers, handed)
 }
 
 /// Through a pile over a queue that it is lent.
 pub fn over_lent_queue(
     memory: &mut [Sample],
-    high: Layer,
-    low: Layer,
-    c: u8,
-    v: Sample,
-    w: Sample,
+    layers: Layers,
+    handed: Handed,
 ) -> Result<Exchanged, Refusal>
-    ensures { Exchanges (paired high (paired low (blank (share (length memory.old))))) c v w result }
+    ensures { Exchanges (piled layers (blank (share (length memory.old)))) handed result }
 {
     let mut queue = Queue::new(memory);
-    through_four(&mut queue, high, low, c, v, w)
+    through_four(&mut queue, layers, handed)
 }
 
 /// Through a pile that owns a latch.
-pub fn over_latch(
-    high: Layer,
-    low: Layer,
-    c: u8,
-    v: Sample,
-    w: Sample,
-) -> Result<Exchanged, Refusal>
-    ensures { Exchanges (paired high (paired low (blank 1))) c v w result }
+pub fn over_latch(layers: Layers, handed: Handed) -> Result<Exchanged, Refusal>
+    ensures { Exchanges (piled layers (blank 1)) handed result }
 {
-    through_four(Latch::new(), high, low, c, v, w)
+    through_four(Latch::new(), layers, handed)
 }
 
 /// Through a pile over a latch that it is lent.
-pub fn over_lent_latch(
-    high: Layer,
-    low: Layer,
-    c: u8,
-    v: Sample,
-    w: Sample,
-) -> Result<Exchanged, Refusal>
-    ensures { Exchanges (paired high (paired low (blank 1))) c v w result }
+pub fn over_lent_latch(layers: Layers, handed: Handed) -> Result<Exchanged, Refusal>
+    ensures { Exchanges (piled layers (blank 1)) handed result }
 {
     let mut latch = Latch::new();
-    through_four(&mut latch, high, low, c, v, w)
+    through_four(&mut latch, layers, handed)
 }
 
 /// A feed to a holder that owns a pile of four over a queue.
 pub fn held(
     code: &[u16],
     memory: &mut [Sample],
-    high: Layer,
-    low: Layer,
+    layers: Layers,
     c: u8,
     v: Sample,
 ) -> Result<(), Refusal>
-    ensures { numbered result ≡ feed_answer (paired high (paired low (blank (share (length memory.old))))) c }
+    ensures { numbered result ≡ feed_answer (piled layers (blank (share (length memory.old)))) c }
 {
+    let Layers { high, low } = layers;
     let mut holder = Holder::new(code, pair(pair(Queue::new(memory), low), high));
     holder.feed(c, v)
 }

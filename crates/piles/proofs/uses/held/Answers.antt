@@ -6,4 +6,4 @@ use Rattle.piles.proofs.uses.held.Goals as goal
 pub returns : goal.returns
 returns c =
     c.feed.ensures.answer
-    ∙ ap (λ m. feed_answer m c.args.c) (c.new-holder.ensures.means ∙ c.pair-2.ensures.means ∙ ap (paired c.args.high) (c.pair.ensures.means ∙ ap (paired c.args.low) c.new.ensures.means))
+    ∙ ap (λ m. feed_answer m c.args.c) (c.new-holder.ensures.means ∙ c.pair-2.ensures.means ∙ ap (paired c.args.layers.high) (c.pair.ensures.means ∙ ap (paired c.args.layers.low) c.new.ensures.means))
