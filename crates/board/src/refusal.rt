@@ -4,6 +4,7 @@ ghost use Rattle.board.specs.Refusals.{number_of};
 use std::fmt;
 
 /// Why a peek was refused. A refusal alters nothing.
+// Beside a port's refusals, and not among them: a port has no words to peek at.
 #[derive(Clone, Copy)]
 pub enum Refusal {
     /// The word is above 1,023.

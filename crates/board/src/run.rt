@@ -18,6 +18,7 @@ use ports::seen::Seen;
 use processor::step::steps;
 
 // A word as it is shown: 65,536 less from 32,768 up.
+// By a comparison and no cast: a word may be any number, and only those from 32,768 up are moved.
 fn shown_word(z: i32) -> i32
     ensures { result ≡ shown_word z }
 {
@@ -47,6 +48,7 @@ impl<'a, P: Port> Board<'a, P> {
         }
     }
 
+    // The calls are passed on under names of its own: a board is no port, and nobody else may take or set.
     /// Hands the port a sample for a channel.
     pub fn feed(&mut self, c: u8, v: i16) -> Result<(), PortRefusal>
         ensures answer { port-numbered result ≡ feed_answer (P.Port.meaning self.old.port) c }

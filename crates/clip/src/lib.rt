@@ -39,6 +39,7 @@ impl<P: Port> Port for Clip<P> {
 
     ghost lawful = { λ t. clipped_lawful t.bands.each (P.Port.meaning t.lower) (P.Port.lawful t.lower) };
 
+    // What a clip does not alter it passes on: a default in the trait would know no lower port.
     fn feed(&mut self, c: u8, v: Sample) -> Result<(), Refusal> {
         self.lower.feed(c, v)
     }

@@ -33,6 +33,7 @@ impl Trap {
 }
 
 /// Why an operation was not carried out.
+// An error of two kinds, each by its name: an Option of a trap would not say what the other is.
 #[derive(Clone, Copy, PartialEq, Eq, Debug)]
 pub enum Fault {
     /// It has no effect here.
@@ -51,6 +52,7 @@ pub enum PortCall {
 }
 
 /// Whether a board goes on.
+// Four states: no Option or Result has so many.
 #[derive(Clone, Copy, PartialEq, Eq, Debug)]
 pub enum Status {
     /// It goes on.
@@ -64,6 +66,7 @@ pub enum Status {
 }
 
 /// What a run comes to.
+// Five outcomes: no Option or Result has so many.
 #[derive(Clone, Copy, PartialEq, Eq, Debug)]
 pub enum Outcome {
     /// The budget is spent.

@@ -58,6 +58,7 @@ impl Port for Latch {
         Ok(self.slots[channel_index(c)?].waiting.take())
     }
 
+    // As a queue sets: what a channel keeps differs, and a function for both would be as long.
     fn set(&mut self, c: u8, v: Sample) -> Result<(), Refusal> {
         self.slots[channel_index(c)?].last = v;
         Ok(())

@@ -1,6 +1,7 @@
 use vocabulary::Tag;
 
 /// A symbol, with the very stretch of source that it was read from.
+// Five cases, and no Option of four: the end is a symbol, with a tag and a place as any.
 #[derive(Clone, Copy, PartialEq, Eq, Debug)]
 pub enum Symbol<'a> {
     /// A reserved word.

@@ -15,6 +15,7 @@ pub struct Line {
     pub depth: usize,
 }
 
+// A list of kinds, as others of tags: a function over a list would say no more.
 /// Whether a node only joins others, or stands for nothing: it gets no line, and its parts stand in its stead.
 fn joins(kind: NodeKind) -> bool
     ensures { result ≡ joining kind }

@@ -51,6 +51,7 @@ fn parameters(descent: &mut Descent<'_>) -> Result<usize, Stop>
     Ok(all)
 }
 
+// A part that may be absent, written out: a function over the part would need a clause over every grammar of one.
 /// The type of a procedure's result, or nothing.
 fn result_type(descent: &mut Descent<'_>) -> Result<usize, Stop>
     ensures { (d e : ℕ) → Goes d e result_part (λ s rs v. Lays 1 (result_type s rs v)) descent.old result descent.new }
@@ -77,6 +78,7 @@ fn heading(descent: &mut Descent<'_>) -> Result<usize, Stop>
     Ok(descent.push(bare(NodeKind::Heading, all, kind)))
 }
 
+// A part that may be absent, written out: a function over the part would need a clause over every grammar of one.
 /// The statements of a body, or nothing.
 fn statements(descent: &mut Descent<'_>) -> Result<usize, Stop>
     ensures { Goes limit limit begin_part (λ s rs v. Lays 1 (behind s rs v)) descent.old result descent.new }
@@ -219,6 +221,7 @@ fn decl(descent: &mut Descent<'_>) -> Result<usize, Stop>
     }
 }
 
+// A loop for each list: one over the item and its test would need a clause over every grammar of an item.
 /// The list of a procedure's declarations.
 fn decls(descent: &mut Descent<'_>) -> Result<usize, Stop>
     ensures { (d e : ℕ) → Goes d e (rep (ref Decl)) (λ s rs v. Lays 1 (list (λ x. x) empty v)) descent.old result descent.new }
@@ -273,6 +276,7 @@ fn declaration(descent: &mut Descent<'_>) -> Result<usize, Stop>
     }
 }
 
+// A loop for each list: one over the item and its test would need a clause over every grammar of an item.
 /// The list of a module's declarations and procedures.
 fn declarations(descent: &mut Descent<'_>) -> Result<usize, Stop>
     ensures { Goes limit limit (rep (alt (ref Decl) (ref Proc))) (λ s rs v. Lays 1 (list (either s rs) empty v)) descent.old result descent.new }

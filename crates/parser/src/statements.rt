@@ -36,6 +36,7 @@ pub(crate) fn stats(descent: &mut Descent<'_>, room: u8) -> Result<usize, Stop>
 fn stat(descent: &mut Descent<'_>, room: u8) -> Result<usize, Stop>
     ensures { Parses limit room 1 Stat descent.old result descent.new }
 {
+    // A match and no table of functions: they take different rooms, and most are in a cycle with this one.
     match descent.next() {
         Tag::Identifier => action(descent),
         Tag::Exit => {
@@ -153,6 +154,7 @@ fn more_arms(descent: &mut Descent<'_>, room: u8, before: usize) -> Result<usize
     Ok(all)
 }
 
+// A part that may be absent, written out: a function over the part would need a clause over every grammar of one.
 /// What stands behind ELSE, or nothing.
 #[cycle(statements)]
 fn otherwise(descent: &mut Descent<'_>, room: u8) -> Result<usize, Stop>
@@ -265,6 +267,7 @@ fn return_statement(descent: &mut Descent<'_>) -> Result<usize, Stop>
     Ok(descent.push(node(NodeKind::Return, Tag::EndOfSource, word.place, 0, value, 0)))
 }
 
+// A part that may be absent, written out: a function over the part would need a clause over every grammar of one.
 /// The step behind BY, or nothing.
 fn step_by(descent: &mut Descent<'_>) -> Result<usize, Stop>
     ensures { (d e : ℕ) → Goes d e by_part (λ s rs v. Lays 1 (behind s rs v)) descent.old result descent.new }

@@ -22,6 +22,7 @@ impl<'a, P: Port> Holder<'a, P> {
         Holder { code, port }
     }
 
+    // The calls are passed on under names of its own: what holds a port, as a board does, need be no port.
     /// Feeds the port.
     pub fn feed(&mut self, c: u8, v: Sample) -> Result<(), Refusal>
         ensures answer { numbered result ≡ feed_answer (P.Port.meaning self.old.port) c }

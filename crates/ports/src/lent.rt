@@ -6,6 +6,7 @@ use crate::sample::Sample;
 use crate::seen::Seen;
 
 /// A port that is lent is a port, so that whoever lends one still has it afterwards.
+// Each call is passed on as it is: a trait cannot write the four for a type that only refers.
 impl<'b, P: Port> Port for &'b mut P {
     ghost meaning = { λ p. P.Port.meaning p.now };
 

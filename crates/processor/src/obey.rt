@@ -13,6 +13,7 @@ use movement::moves;
 pub fn obey(m: &mut Memory, operation: Operation, operand: u16) -> Result<(), Fault>
     ensures { Does (obeyed operation operand) m.old result m.new }
 {
+    // A match and no table of functions: each arm hands over what its shape takes, and all become one jump.
     match operation {
         Operation::End => flow::end(m),
         Operation::Integer => m.push(i32::from(operand.cast_signed())),

@@ -36,6 +36,7 @@ fn settle(m: &mut Memory, res: Result<(), Fault>, place: u16) -> Act
 }
 
 // Goes on to the next index.
+// The index of a step lies within the list; a memory alone can stand at any.
 fn go_on(m: &mut Memory)
     requires { m.old.pc + 1 < 2 ^ 64 }
     ensures { m.new ≡ on m.old }

@@ -111,6 +111,7 @@ impl<'a> Port for Queue<'a> {
         Ok(Some(oldest))
     }
 
+    // As a latch sets: what a channel keeps differs, and a function for both would be as long.
     fn set(&mut self, c: u8, v: Sample) -> Result<(), Refusal> {
         self.rings[channel_index(c)?].last = v;
         Ok(())

@@ -5,6 +5,7 @@ use number::number;
 use ports::sample::Sample;
 
 /// What a line of a script asks.
+// Eight commands: that one of them has no value makes it no Option.
 #[derive(Clone, Copy)]
 pub enum Command {
     /// A queue over memory of this many samples is the port under all.

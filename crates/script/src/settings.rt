@@ -11,6 +11,7 @@ use ports::refusal::Refusal;
 use trim::offsets::Offsets;
 
 /// The port under all.
+// Two makes, and no Option: a latch is not the lack of a queue.
 #[derive(Clone, Copy)]
 pub enum Base {
     /// A queue over memory of this many samples.

@@ -15,6 +15,7 @@ use crate::tree::{NodeKind, TreeRecord, bare, node};
 use lexer::SymbolRecord;
 use vocabulary::Tag;
 
+// Each class of tags is a list of its own: a function over a list of tags would say no more.
 /// A relation between two sums.
 fn is_relation(tag: Tag) -> bool
     ensures { result ≡ mem (code tag) relations }
@@ -91,6 +92,7 @@ impl Descent<'_> {
         Ok(self.push(binary(operator, left, right)))
     }
 
+    // A loop for each list: one over the item and its test would need a clause over every grammar of an item.
     /// A sum: terms, the first of which may have a sign.
     #[cycle(expressions)]
     fn sum(&mut self, room: u8) -> Result<usize, Stop>
@@ -118,6 +120,7 @@ impl Descent<'_> {
         Ok(self.push(node(NodeKind::Unary, sign.tag, sign.place, 0, operand, 0)))
     }
 
+    // A loop for each list: one over the item and its test would need a clause over every grammar of an item.
     /// A term: factors.
     #[cycle(expressions)]
     fn term(&mut self, room: u8) -> Result<usize, Stop>

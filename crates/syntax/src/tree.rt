@@ -118,6 +118,7 @@ impl NodeKind {
 }
 
 /// A node of the syntax tree: what it is, where it stands, and the indexes of its parts, which are below its own.
+// Parts are indexes into the lent list: a compiler without a heap has no boxes.
 #[derive(Clone, Copy)]
 pub struct TreeRecord {
     pub kind: NodeKind,

@@ -3,6 +3,7 @@ ghost use Rattle.syntax.specs.Symbols.{word_length, number_at};
 
 use vocabulary::{number_value, run};
 
+// By place: a record keeps the place of its symbol, and no text.
 /// How long the word or number at a place is.
 pub fn word_length(source: &[u8], place: usize) -> usize
     ensures is { result ≡ word_length source.now place }

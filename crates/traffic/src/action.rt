@@ -1,6 +1,7 @@
 use ports::sample::Sample;
 
 /// One thing to do on a channel.
+// Two actions, and no Option: a take is not the lack of a feed.
 #[derive(Clone, Copy)]
 pub enum Action {
     /// Feed a value.
@@ -10,6 +11,7 @@ pub enum Action {
 }
 
 /// What came of an action that the port did not refuse.
+// Two outcomes, and no Option: of a take it says besides whether a sample waited.
 #[derive(Clone, Copy)]
 pub enum Outcome {
     /// The feed was accepted.

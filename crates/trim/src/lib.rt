@@ -46,6 +46,7 @@ impl<P: Port> Port for Trim<P> {
 
     ghost lawful = { λ t. trimmed_lawful t.offsets.each (P.Port.meaning t.lower) (P.Port.lawful t.lower) };
 
+    // What a trim does not alter it passes on: a default in the trait would know no lower port.
     fn feed(&mut self, c: u8, v: Sample) -> Result<(), Refusal> {
         self.lower.feed(c, v)
     }

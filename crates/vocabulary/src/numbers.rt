@@ -9,6 +9,7 @@ use faults::FaultKind;
 pub fn digit_value(c: u8) -> u32
     ensures { result ≡ digit_value c }
 {
+    // Not to_digit, which takes small letters too.
     match c {
         b'0'..=b'9' => (c - b'0') as u32,
         b'A'..=b'F' => (c - b'A') as u32 + 10,
