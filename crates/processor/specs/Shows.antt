@@ -1,5 +1,5 @@
 -- What whoever holds the port is told of instructions.
-use Rattle.std.specs.Prelude.{List, ℕ, zero, suc, ◌+◌, ◌<◌}
+use Rattle.std.specs.Prelude.{◌≡◌, List, ℕ, zero, suc, ◌+◌, ◌<◌}
 use Rattle.instructions.specs.declared.answers.Act.{Act}
 use Rattle.instructions.specs.declared.answers.Act.TheVariants.{Went, Take, Set, Stopped}
 use Rattle.instructions.specs.declared.instruction.Instruction.{Instruction}
@@ -19,6 +19,10 @@ shown (takes n p) c = record { act = Take n p; state = c }
 shown (sets n x w) c = record { act = Set n x; state = w }
 shown (breaks w) c = record { act = Stopped; state = became Broken w }
 shown stops c = record { act = Stopped; state = c }
+
+-- an effect was told as this act, and left this memory
+abbrev pub Tells : (State → Effect) → State → Act → State → Type 0
+Tells f before a after = shown (f before) before ≡ record { act = a; state = after }
 
 -- a Take that is asked stands within the list
 abbrev pub WithinList : Act → ℕ → ℕ → Type 0

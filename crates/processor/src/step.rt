@@ -1,7 +1,7 @@
 ghost use Rattle.std.specs.Prelude.{◌≡◌, ℕ, ◌+◌, ◌^◌, ◌<◌, length};
 ghost use Rattle.instructions.specs.State.{on};
 ghost use Rattle.instructions.specs.Steps.{failing, settled, effect, stepped};
-ghost use Rattle.processor.specs.Shows.{shown, stretched, WithinList};
+ghost use Rattle.processor.specs.Shows.{stretched, Tells, WithinList};
 
 use crate::obey::obey;
 use control::flow;
@@ -11,7 +11,7 @@ use memory::Memory;
 
 // An operation that was not carried out: no effect, or a trap at its place.
 fn fail(m: &mut Memory, fault: Fault, place: u16) -> Act
-    ensures { shown (failing fault place m.old) m.old ≡ record { act = result; state = m.new } }
+    ensures { Tells (failing fault place) m.old result m.new }
 {
     match fault {
         Fault::Broken => {
@@ -27,7 +27,7 @@ fn fail(m: &mut Memory, fault: Fault, place: u16) -> Act
 
 // What an operation came to.
 fn settle(m: &mut Memory, res: Result<(), Fault>, place: u16) -> Act
-    ensures { shown (settled res place m.old) m.old ≡ record { act = result; state = m.new } }
+    ensures { Tells (settled res place) m.old result m.new }
 {
     match res {
         Ok(()) => Act::Went,
@@ -47,7 +47,7 @@ fn go_on(m: &mut Memory)
 // Executes an instruction as far as the memory goes.
 fn execute(m: &mut Memory, i: Instruction) -> Act
     requires { m.old.pc + 1 < 2 ^ 64 }
-    ensures { shown (effect i m.old) m.old ≡ record { act = result; state = m.new } }
+    ensures { Tells (effect i) m.old result m.new }
 {
     match i.operation.port_call() {
         None => {
@@ -74,7 +74,7 @@ fn execute(m: &mut Memory, i: Instruction) -> Act
 
 // One step, by the status and the next instruction, as far as the memory goes.
 fn step(m: &mut Memory, code: &[Instruction]) -> Act
-    ensures gone { shown (stepped code.now m.old) m.old ≡ record { act = result; state = m.new } }
+    ensures gone { Tells (stepped code.now) m.old result m.new }
     ensures here { WithinList result m.new.pc (length code.now) }
 {
     match (m.status(), code.get(m.pc())) {
