@@ -44,11 +44,9 @@ fn fault_at(source: &[u8], symbols: &[SymbolRecord], stop: Stop) -> Fault
         Stop::Impossible(at) => (FaultKind::ImpossibleSymbol, at),
         Stop::TooDeep(at) => (FaultKind::EnclosedTooDeep, at),
     };
-    let place = if at < symbols.len() {
-        symbols[at].place as usize
-    } else {
-        source.len()
-    };
+    let place = symbols
+        .get(at)
+        .map_or(source.len(), |symbol| symbol.place as usize);
     Fault { kind, place }
 }
 

@@ -9,7 +9,7 @@ ghost use Rattle.syntax.specs.Forms.{comma_name, semicolon_pars, result_part, be
 ghost use Rattle.syntax.specs.Post.{Parses, Goes, Lays, Spares};
 
 use crate::statements::{LIMIT, stats};
-use syntax::{Descent, NodeKind, Stop, bare, begins_elem, node};
+use syntax::{Descent, NodeKind, Stop, bare, begins_elem, placed};
 use vocabulary::Tag;
 
 /// Names with commas between them.
@@ -35,6 +35,7 @@ fn pars(descent: &mut Descent<'_>) -> Result<usize, Stop>
 }
 
 /// The list of a procedure's groups of parameters.
+// One reader for every list would need the item's rule as a ghost value and a clause on the closure that reads it, which is more than these lines.
 fn parameters(descent: &mut Descent<'_>) -> Result<usize, Stop>
     ensures { (d e : ℕ) → Goes d e (opt (seq (ref Pars) (rep semicolon_pars))) (λ s rs v. Lays 2 (separated s rs v)) descent.old result descent.new }
 {
@@ -96,7 +97,7 @@ fn body(descent: &mut Descent<'_>) -> Result<usize, Stop>
 {
     let all = statements(descent)?;
     let end = descent.expect(Tag::End)?;
-    Ok(descent.push(node(NodeKind::Body, Tag::EndOfSource, end.place, 0, all, 0)))
+    Ok(descent.push(placed(NodeKind::Body, end.place, 0, all, 0)))
 }
 
 /// A body and the name that closes it.
@@ -106,14 +107,7 @@ fn closed(descent: &mut Descent<'_>) -> Result<usize, Stop>
     let inner = body(descent)?;
     let name = descent.expect(Tag::Identifier)?;
     let length = descent.word_length(name);
-    Ok(descent.push(node(
-        NodeKind::Closing,
-        Tag::EndOfSource,
-        name.place,
-        length,
-        inner,
-        0,
-    )))
+    Ok(descent.push(placed(NodeKind::Closing, name.place, length, inner, 0)))
 }
 
 /// A constant: an element or a set.
@@ -140,14 +134,7 @@ fn array(descent: &mut Descent<'_>) -> Result<usize, Stop>
     descent.expect(Tag::CloseSquare)?;
     descent.expect(Tag::Of)?;
     let kind = descent.name()?;
-    Ok(descent.push(node(
-        NodeKind::Array,
-        Tag::EndOfSource,
-        array.place,
-        0,
-        bounds,
-        kind,
-    )))
+    Ok(descent.push(placed(NodeKind::Array, array.place, 0, bounds, kind)))
 }
 
 /// A type: a name or an array.
@@ -166,21 +153,14 @@ fn constants(descent: &mut Descent<'_>) -> Result<usize, Stop>
     ensures { (d e : ℕ) → Goes d e const_part (λ s rs v. Spares (constants_of s rs v)) descent.old result descent.new }
 {
     let word = descent.expect(Tag::Const)?;
-    let mut all = descent.push(node(NodeKind::Constants, Tag::EndOfSource, word.place, 0, 0, 0));
+    let mut all = descent.push(placed(NodeKind::Constants, word.place, 0, 0, 0));
     while descent.is_next(Tag::Identifier) {
         let name = descent.advance();
         let length = descent.word_length(name);
         descent.expect(Tag::Equal)?;
         let value = constant(descent)?;
         descent.expect(Tag::Semicolon)?;
-        let item = descent.push(node(
-            NodeKind::Constant,
-            Tag::EndOfSource,
-            name.place,
-            length,
-            value,
-            0,
-        ));
+        let item = descent.push(placed(NodeKind::Constant, name.place, length, value, 0));
         all = descent.push(bare(NodeKind::Link, all, item));
     }
     Ok(all)
@@ -191,7 +171,7 @@ fn variables(descent: &mut Descent<'_>) -> Result<usize, Stop>
     ensures { (d e : ℕ) → Goes d e var_part (λ s rs v. Spares (variables_of s rs v)) descent.old result descent.new }
 {
     let word = descent.expect(Tag::Var)?;
-    let mut all = descent.push(node(NodeKind::Variables, Tag::EndOfSource, word.place, 0, 0, 0));
+    let mut all = descent.push(placed(NodeKind::Variables, word.place, 0, 0, 0));
     while descent.is_next(Tag::Identifier) {
         let group = names(descent)?;
         descent.expect(Tag::Colon)?;
@@ -246,14 +226,7 @@ fn proc(descent: &mut Descent<'_>) -> Result<usize, Stop>
     let list = decls(descent)?;
     let inner = closed(descent)?;
     let block = descent.push(bare(NodeKind::Block, list, inner));
-    let whole = descent.push(node(
-        NodeKind::Procedure,
-        Tag::EndOfSource,
-        name.place,
-        length,
-        head,
-        block,
-    ));
+    let whole = descent.push(placed(NodeKind::Procedure, name.place, length, head, block));
     descent.expect(Tag::Semicolon)?;
     Ok(whole)
 }
@@ -300,12 +273,5 @@ pub(crate) fn module(descent: &mut Descent<'_>) -> Result<usize, Stop>
     let list = declarations(descent)?;
     let inner = closed(descent)?;
     descent.expect(Tag::Period)?;
-    Ok(descent.push(node(
-        NodeKind::Module,
-        Tag::EndOfSource,
-        name.place,
-        length,
-        list,
-        inner,
-    )))
+    Ok(descent.push(placed(NodeKind::Module, name.place, length, list, inner)))
 }

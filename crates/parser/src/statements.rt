@@ -2,17 +2,14 @@ ghost use Rattle.std.specs.Prelude.{◌≡◌, ℕ};
 ghost use Rattle.grammar.specs.Claims.{limit};
 ghost use Rattle.grammar.specs.Ebnf.{rep, opt, ref};
 ghost use Rattle.grammar.specs.Language.{Index, Args, Expr, Stats, Stat, Action, If, While, Repeat, Loop, Return, For, Control};
-ghost use Rattle.vocabulary.specs.declared.tag.Tag.TheVariants.{EndOfSource};
-ghost use Rattle.syntax.specs.declared.tree.NodeKind.TheVariants as kind;
 ghost use Rattle.syntax.specs.Actions.{list, arm, behind, maybe};
 ghost use Rattle.syntax.specs.Forms.{elsif_arm, else_part, by_part, assigning, assigned, targeted};
 ghost use Rattle.syntax.specs.Post.{Parses, Goes, Extends, Lays};
 ghost use Rattle.syntax.specs.Steps.{root};
 ghost use Rattle.syntax.specs.Symbols.{word_length};
-ghost use Rattle.syntax.specs.Syntax.{entry, label};
 
 use lexer::SymbolRecord;
-use syntax::{Descent, NodeKind, Stop, TreeRecord, bare, begins_expr, node};
+use syntax::{Descent, NodeKind, Stop, bare, begins_expr, placed};
 use vocabulary::Tag;
 
 /// At most so many symbols may enclose a factor, and so many a statement.
@@ -41,7 +38,7 @@ fn stat(descent: &mut Descent<'_>, room: u8) -> Result<usize, Stop>
         Tag::Identifier => action(descent),
         Tag::Exit => {
             let word = descent.advance();
-            Ok(descent.push(node(NodeKind::Exit, Tag::EndOfSource, word.place, 0, 0, 0)))
+            Ok(descent.push(placed(NodeKind::Exit, word.place, 0, 0, 0)))
         }
         Tag::If => if_statement(descent, room),
         Tag::While => while_statement(descent, room),
@@ -60,16 +57,9 @@ fn target(descent: &mut Descent<'_>, name: SymbolRecord) -> Result<usize, Stop>
     let length = descent.word_length(name);
     if descent.is_next(Tag::OpenSquare) {
         let part = descent.index(LIMIT)?;
-        return Ok(descent.push(node(
-            NodeKind::Element,
-            Tag::EndOfSource,
-            name.place,
-            length,
-            part,
-            0,
-        )));
+        return Ok(descent.push(placed(NodeKind::Element, name.place, length, part, 0)));
     }
-    Ok(descent.push(node(NodeKind::Name, Tag::EndOfSource, name.place, length, 0, 0)))
+    Ok(descent.push(placed(NodeKind::Name, name.place, length, 0, 0)))
 }
 
 /// The rest of an assignment behind its name.
@@ -79,14 +69,7 @@ fn assignment(descent: &mut Descent<'_>, name: SymbolRecord) -> Result<usize, St
     let variable = target(descent, name)?;
     let becomes = descent.expect(Tag::Becomes)?;
     let value = descent.expr(LIMIT)?;
-    Ok(descent.push(node(
-        NodeKind::Assign,
-        Tag::EndOfSource,
-        becomes.place,
-        0,
-        variable,
-        value,
-    )))
+    Ok(descent.push(placed(NodeKind::Assign, becomes.place, 0, variable, value)))
 }
 
 /// The arguments of a call, or nothing.
@@ -110,30 +93,9 @@ fn action(descent: &mut Descent<'_>) -> Result<usize, Stop>
         _ => {
             let length = descent.word_length(name);
             let part = arguments(descent)?;
-            Ok(descent.push(node(
-                NodeKind::Call,
-                Tag::EndOfSource,
-                name.place,
-                length,
-                part,
-                0,
-            )))
+            Ok(descent.push(placed(NodeKind::Call, name.place, length, part, 0)))
         }
     }
-}
-
-/// The node of an arm, at its IF or ELSIF.
-fn arm(word: SymbolRecord, condition: usize, body: usize) -> TreeRecord
-    ensures { result ≡ entry (label kind.Arm EndOfSource word.place 0) condition body }
-{
-    node(
-        NodeKind::Arm,
-        Tag::EndOfSource,
-        word.place,
-        0,
-        condition,
-        body,
-    )
 }
 
 /// The arms that ELSIF begins, added to the list of those before.
@@ -148,7 +110,7 @@ fn more_arms(descent: &mut Descent<'_>, room: u8, before: usize) -> Result<usize
         let condition = descent.expr(LIMIT)?;
         descent.expect(Tag::Then)?;
         let body = stats(descent, room)?;
-        let item = descent.push(arm(word, condition, body));
+        let item = descent.push(placed(NodeKind::Arm, word.place, 0, condition, body));
         all = descent.push(bare(NodeKind::Link, all, item));
     }
     Ok(all)
@@ -176,18 +138,11 @@ fn if_statement(descent: &mut Descent<'_>, room: u8) -> Result<usize, Stop>
     let condition = descent.expr(LIMIT)?;
     descent.expect(Tag::Then)?;
     let body = stats(descent, inside)?;
-    let first = descent.push(arm(word, condition, body));
+    let first = descent.push(placed(NodeKind::Arm, word.place, 0, condition, body));
     let arms = more_arms(descent, inside, first)?;
     let other = otherwise(descent, inside)?;
     let end = descent.expect(Tag::End)?;
-    Ok(descent.push(node(
-        NodeKind::If,
-        Tag::EndOfSource,
-        word.place,
-        end.place as usize,
-        arms,
-        other,
-    )))
+    Ok(descent.push(placed(NodeKind::If, word.place, end.place as usize, arms, other)))
 }
 
 /// WHILE.
@@ -200,9 +155,8 @@ fn while_statement(descent: &mut Descent<'_>, room: u8) -> Result<usize, Stop>
     descent.expect(Tag::Do)?;
     let body = stats(descent, inside)?;
     let end = descent.expect(Tag::End)?;
-    Ok(descent.push(node(
+    Ok(descent.push(placed(
         NodeKind::While,
-        Tag::EndOfSource,
         word.place,
         end.place as usize,
         condition,
@@ -219,14 +173,7 @@ fn repeat_statement(descent: &mut Descent<'_>, room: u8) -> Result<usize, Stop>
     let body = stats(descent, inside)?;
     descent.expect(Tag::Until)?;
     let condition = descent.expr(LIMIT)?;
-    Ok(descent.push(node(
-        NodeKind::Repeat,
-        Tag::EndOfSource,
-        word.place,
-        0,
-        body,
-        condition,
-    )))
+    Ok(descent.push(placed(NodeKind::Repeat, word.place, 0, body, condition)))
 }
 
 /// LOOP.
@@ -237,14 +184,7 @@ fn loop_statement(descent: &mut Descent<'_>, room: u8) -> Result<usize, Stop>
     let (word, inside) = descent.open(Tag::Loop, room)?;
     let body = stats(descent, inside)?;
     let end = descent.expect(Tag::End)?;
-    Ok(descent.push(node(
-        NodeKind::Loop,
-        Tag::EndOfSource,
-        word.place,
-        end.place as usize,
-        body,
-        0,
-    )))
+    Ok(descent.push(placed(NodeKind::Loop, word.place, end.place as usize, body, 0)))
 }
 
 /// The value behind RETURN, or nothing.
@@ -264,7 +204,7 @@ fn return_statement(descent: &mut Descent<'_>) -> Result<usize, Stop>
 {
     let word = descent.expect(Tag::Return)?;
     let value = returned(descent)?;
-    Ok(descent.push(node(NodeKind::Return, Tag::EndOfSource, word.place, 0, value, 0)))
+    Ok(descent.push(placed(NodeKind::Return, word.place, 0, value, 0)))
 }
 
 // A part that may be absent, written out: a function over the part would need a clause over every grammar of one.
@@ -292,14 +232,7 @@ fn control(descent: &mut Descent<'_>) -> Result<usize, Stop>
     let limits = descent.push(bare(NodeKind::Limits, first, last));
     let step = step_by(descent)?;
     let terms = descent.push(bare(NodeKind::Terms, limits, step));
-    Ok(descent.push(node(
-        NodeKind::Control,
-        Tag::EndOfSource,
-        name.place,
-        length,
-        terms,
-        0,
-    )))
+    Ok(descent.push(placed(NodeKind::Control, name.place, length, terms, 0)))
 }
 
 /// FOR.
@@ -312,12 +245,5 @@ fn for_statement(descent: &mut Descent<'_>, room: u8) -> Result<usize, Stop>
     descent.expect(Tag::Do)?;
     let body = stats(descent, inside)?;
     let end = descent.expect(Tag::End)?;
-    Ok(descent.push(node(
-        NodeKind::For,
-        Tag::EndOfSource,
-        word.place,
-        end.place as usize,
-        head,
-        body,
-    )))
+    Ok(descent.push(placed(NodeKind::For, word.place, end.place as usize, head, body)))
 }

@@ -8,7 +8,7 @@ ghost use Rattle.syntax.specs.Forms.{comma_range, numeral, number_of};
 ghost use Rattle.syntax.specs.Post.{Parses, Goes, Lays};
 
 use crate::step::{Descent, Stop};
-use crate::tree::{NodeKind, bare, node};
+use crate::tree::{NodeKind, bare, placed};
 use vocabulary::Tag;
 
 /// A symbol that a constant element begins with.
@@ -25,7 +25,7 @@ impl Descent<'_> {
     {
         let name = self.expect(Tag::Identifier)?;
         let length = self.word_length(name);
-        Ok(self.push(node(NodeKind::Name, Tag::EndOfSource, name.place, length, 0, 0)))
+        Ok(self.push(placed(NodeKind::Name, name.place, length, 0, 0)))
     }
 
     /// A number.
@@ -34,14 +34,7 @@ impl Descent<'_> {
     {
         let digits = self.expect(Tag::Number)?;
         let value = self.number_at(digits);
-        Ok(self.push(node(
-            NodeKind::Number,
-            Tag::EndOfSource,
-            digits.place,
-            value,
-            0,
-            0,
-        )))
+        Ok(self.push(placed(NodeKind::Number, digits.place, value, 0, 0)))
     }
 
     /// A constant element: a number, a negative number, or a name.
@@ -53,14 +46,7 @@ impl Descent<'_> {
                 let sign = self.advance();
                 let number = self.expect(Tag::Number)?;
                 let value = self.number_at(number);
-                Ok(self.push(node(
-                    NodeKind::Negative,
-                    Tag::EndOfSource,
-                    sign.place,
-                    value,
-                    0,
-                    0,
-                )))
+                Ok(self.push(placed(NodeKind::Negative, sign.place, value, 0, 0)))
             }
             Tag::Number => self.numeral(),
             _ => self.name(),
@@ -80,6 +66,7 @@ impl Descent<'_> {
     }
 
     /// The list of the elements and ranges of a set.
+    // One reader for every list would need the item's rule as a ghost value and a clause on the closure that reads it, which is more than these lines.
     fn ranges(&mut self) -> Result<usize, Stop>
         ensures { (d e : ℕ) → Goes d e (opt (seq (ref Range) (rep comma_range))) (λ s rs v. Lays 2 (separated s rs v)) self.old result self.new }
     {
@@ -103,6 +90,6 @@ impl Descent<'_> {
         let opening = self.expect(Tag::OpenCurly)?;
         let all = self.ranges()?;
         self.expect(Tag::CloseCurly)?;
-        Ok(self.push(node(NodeKind::Set, Tag::EndOfSource, opening.place, 0, all, 0)))
+        Ok(self.push(placed(NodeKind::Set, opening.place, 0, all, 0)))
     }
 }

@@ -11,7 +11,7 @@ ghost use Rattle.syntax.specs.Symbols.{word_length};
 ghost use Rattle.syntax.specs.Syntax.{entry, label};
 
 use crate::step::{Descent, Stop};
-use crate::tree::{NodeKind, TreeRecord, bare, node};
+use crate::tree::{NodeKind, TreeRecord, bare, node, placed};
 use lexer::SymbolRecord;
 use vocabulary::Tag;
 
@@ -151,14 +151,7 @@ impl Descent<'_> {
                 let (opening, inside) = self.open(Tag::OpenRound, room)?;
                 let inner = self.expr(inside)?;
                 self.expect(Tag::CloseRound)?;
-                Ok(self.push(node(
-                    NodeKind::Group,
-                    Tag::EndOfSource,
-                    opening.place,
-                    0,
-                    inner,
-                    0,
-                )))
+                Ok(self.push(placed(NodeKind::Group, opening.place, 0, inner, 0)))
             }
             _ => {
                 let (operator, inside) = self.open(Tag::Not, room)?;
@@ -177,27 +170,13 @@ impl Descent<'_> {
         match self.next() {
             Tag::OpenSquare => {
                 let part = self.index(room)?;
-                Ok(self.push(node(
-                    NodeKind::Element,
-                    Tag::EndOfSource,
-                    name.place,
-                    length,
-                    part,
-                    0,
-                )))
+                Ok(self.push(placed(NodeKind::Element, name.place, length, part, 0)))
             }
             Tag::OpenRound => {
                 let part = self.args(room)?;
-                Ok(self.push(node(
-                    NodeKind::Call,
-                    Tag::EndOfSource,
-                    name.place,
-                    length,
-                    part,
-                    0,
-                )))
+                Ok(self.push(placed(NodeKind::Call, name.place, length, part, 0)))
             }
-            _ => Ok(self.push(node(NodeKind::Name, Tag::EndOfSource, name.place, length, 0, 0))),
+            _ => Ok(self.push(placed(NodeKind::Name, name.place, length, 0, 0))),
         }
     }
 
@@ -209,14 +188,7 @@ impl Descent<'_> {
         let (opening, inside) = self.open(Tag::OpenSquare, room)?;
         let inner = self.expr(inside)?;
         self.expect(Tag::CloseSquare)?;
-        Ok(self.push(node(
-            NodeKind::Index,
-            Tag::EndOfSource,
-            opening.place,
-            0,
-            inner,
-            0,
-        )))
+        Ok(self.push(placed(NodeKind::Index, opening.place, 0, inner, 0)))
     }
 
     /// Arguments in parentheses.
@@ -231,6 +203,7 @@ impl Descent<'_> {
     }
 
     /// The list of arguments.
+    // One reader for every list would need the item's rule as a ghost value and a clause on the closure that reads it, which is more than these lines.
     #[cycle(expressions)]
     fn arguments(&mut self, room: u8) -> Result<usize, Stop>
         ensures { (e : ℕ) → Goes room e (opt (seq (ref Expr) (rep comma_expr))) (λ s rs v. Lays 2 (separated s rs v)) self.old result self.new }

@@ -10,4 +10,4 @@ mod words;
 pub use constants::begins_elem;
 pub use expressions::begins_expr;
 pub use step::{Cursor, Descent, Stop};
-pub use tree::{NodeKind, TreeRecord, bare, node};
+pub use tree::{NodeKind, TreeRecord, bare, node, placed};

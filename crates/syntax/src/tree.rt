@@ -162,9 +162,16 @@ pub fn node(
     }
 }
 
+/// A node without operator.
+pub fn placed(kind: NodeKind, place: u16, value: usize, first: usize, second: usize) -> TreeRecord
+    ensures { result ≡ entry (label kind EndOfSource place value) first second }
+{
+    node(kind, Tag::EndOfSource, place, value, first, second)
+}
+
 /// A node without operator, place and value.
 pub fn bare(kind: NodeKind, first: usize, second: usize) -> TreeRecord
     ensures { result ≡ entry (label kind EndOfSource 0 0) first second }
 {
-    node(kind, Tag::EndOfSource, 0, 0, first, second)
+    placed(kind, 0, 0, first, second)
 }

@@ -41,5 +41,5 @@ returns c d e =
     let l = binary_lays f.one y.one.passed z.one.one z.one.two (entry_same c.bare.ensures refl refl refl (rooted (c.in_ok-first.ensures d e)) (rooted (c.in_ok-last.ensures d e))) 0 (omega arith) in
     lays_passed (passed_both a.one.passed b.one.passed)
     (binary_lays l (passed_both u.one.passed m.one.passed) m.two x.two
-    (entry_same c.node.ensures refl (place_is a.one) refl c.push-bounds.ensures.is (rooted (c.in_ok-kind.ensures d e))) 0 (omega arith)))
+    (entry_same c.placed.ensures refl (place_is a.one) refl c.push-bounds.ensures.is (rooted (c.in_ok-kind.ensures d e))) 0 (omega arith)))
     (did_push (did_seq (did_expect c.in_ok-array.ensures) (did_seq (did_expect c.in_ok-expect.ensures) (did_seq (did (c.in_ok-first.ensures d e)) (did_seq (did_expect c.in_ok-expect-2.ensures) (did_seq (did_push (did (c.in_ok-last.ensures d e)) c.push-bounds.ensures) (did_seq (did_expect c.in_ok-expect-3.ensures) (did_seq (did_expect c.in_ok-expect-4.ensures) (did (c.in_ok-kind.ensures d e))))))))) c.push.ensures))

@@ -14,5 +14,5 @@ returns c =
     goes_ok c.push.ensures.is (did_node (did_map
     (λ v g x.
     let y = x.one in
-    unary_lays {m = 0} {n = 1} passed_none y.one y.two.passed x.two (entry_same c.node.ensures refl (place_is y.two) refl (rooted c.in_ok-all.ensures) refl) 0 (omega arith))
+    unary_lays {m = 0} {n = 1} passed_none y.one y.two.passed x.two (entry_same c.placed.ensures refl (place_is y.two) refl (rooted c.in_ok-all.ensures) refl) 0 (omega arith))
     (did_push (did_seq (did c.in_ok-all.ensures) (did_expect c.in_ok-end.ensures)) c.push.ensures)))

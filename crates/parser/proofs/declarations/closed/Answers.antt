@@ -17,5 +17,5 @@ returns c =
     (λ v g x.
     let y = x.one in
     unary_lays {m = 0} {n = 1} passed_none y.one y.two.passed x.two
-    (entry_same c.node.ensures refl (place_is y.two) (length_is (keeps_both (did a).keeps b.1.keeps) y.two c.word_length-length.ensures) (rooted a) refl) 0 (omega arith))
+    (entry_same c.placed.ensures refl (place_is y.two) (length_is (keeps_both (did a).keeps b.1.keeps) y.two c.word_length-length.ensures) (rooted a) refl) 0 (omega arith))
     (did_push (did_seq (did c.in_ok-inner.ensures) (did_expect c.in_ok-name.ensures)) c.push.ensures))

@@ -11,7 +11,7 @@ pub loop-descent-init : goal.loop-descent-init
 loop-descent-init c =
     record {
       leads = λ d e. record {
-        on = λ p' b. did_map (λ v g x. spares_more (spares_leaf _ x.one.one.passed (entry_same c.node.ensures refl (place_is x.one.one) refl refl refl) x.one.two) x.two) (did_seq (did_push (did_expect c.in_ok-word.ensures) c.push-all.ensures) b);
+        on = λ p' b. did_map (λ v g x. spares_more (spares_leaf _ x.one.one.passed (entry_same c.placed.ensures refl (place_is x.one.one) refl refl refl) x.one.two) x.two) (did_seq (did_push (did_expect c.in_ok-word.ensures) c.push-all.ensures) b);
         off = λ k p' b. fails_then (did_push (did_expect c.in_ok-word.ensures) c.push-all.ensures) b;
       };
       all = c.push-all.ensures.is;
@@ -49,7 +49,7 @@ loop-descent-preserved c =
           let z = b.two in
           extends_item a.one.passed
           (unary_lays {m = 1} {n = 1} b.one.passed z.one z.two.passed x.one.two
-          (entry_same c.node-in-loop-descent.ensures refl (place_is a.one) (length_is c.advance-name.ensures.keeps a.one c.word_length-length.ensures) (rooted (c.in_ok-value.ensures d e)) refl) 0 (omega arith)) x.two
+          (entry_same c.placed-in-loop-descent.ensures refl (place_is a.one) (length_is c.advance-name.ensures.keeps a.one c.word_length-length.ensures) (rooted (c.in_ok-value.ensures d e)) refl) 0 (omega arith)) x.two
           (entry_same c.bare.ensures refl refl refl i.all c.push-item.ensures.is) 0 (omega arith))
           (did_push (did_push (did_seq (did_on c.advance-name.ensures h) (did_seq (did_expect c.in_ok-expect.ensures) (did_seq (did (c.in_ok-value.ensures d e)) (did_expect c.in_ok-expect-2.ensures)))) c.push-item.ensures) c.push-all-in-loop-descent.ensures));
       all = c.push-all-in-loop-descent.ensures.is;

@@ -33,5 +33,5 @@ returns c =
     let t = m.two in
     lays_paid (passed_both (passed_both a.one.passed b.one.passed) l.one.passed)
     (binary_lays {n = 0} m.one passed_none (lays_close {n = 1} t.one t.two.passed 0 (omega arith)) x.two
-    (entry_same c.node.ensures refl (place_is b.one) (length_is (keeps_both c.in_ok-expect.ensures.1.keeps n.1.keeps) b.one c.word_length-length.ensures) (rooted c.in_ok-list.ensures) (rooted c.in_ok-inner.ensures ∙ ap (λ n. n - 1) (sym t.two.passed.used))) 2 (omega arith)) 0 (omega arith))
+    (entry_same c.placed.ensures refl (place_is b.one) (length_is (keeps_both c.in_ok-expect.ensures.1.keeps n.1.keeps) b.one c.word_length-length.ensures) (rooted c.in_ok-list.ensures) (rooted c.in_ok-inner.ensures ∙ ap (λ n. n - 1) (sym t.two.passed.used))) 2 (omega arith)) 0 (omega arith))
     (did_push (did_seq (did_expect c.in_ok-expect.ensures) (did_seq (did_expect c.in_ok-name.ensures) (did_seq (did_expect c.in_ok-expect-2.ensures) (did_seq (did c.in_ok-list.ensures) (did_turned (did_seq (did c.in_ok-inner.ensures) (did_expect c.in_ok-expect-3.ensures))))))) c.push.ensures)))

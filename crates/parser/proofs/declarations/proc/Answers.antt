@@ -36,6 +36,6 @@ returns c =
     let t = m.two in
     let block = binary_lays {n = 0} m.one passed_none t.one.one.one t.one.one.two (entry_same c.bare.ensures refl refl refl (rooted (c.in_ok-list.ensures 0 0)) (rooted c.in_ok-inner.ensures)) 2 (omega arith) in
     let whole = binary_lays f.one l.one.passed block t.one.two
-    (entry_same c.node.ensures refl (place_is b.one) (length_is (keeps_both c.in_ok-expect.ensures.1.keeps n.1.keeps) b.one c.word_length-length.ensures) (rooted (c.in_ok-head.ensures 0 0)) c.push-block.ensures.is) 4 (omega arith) in
+    (entry_same c.placed.ensures refl (place_is b.one) (length_is (keeps_both c.in_ok-expect.ensures.1.keeps n.1.keeps) b.one c.word_length-length.ensures) (rooted (c.in_ok-head.ensures 0 0)) c.push-block.ensures.is) 4 (omega arith) in
     spares_close (lays_paid (passed_both x.one.passed b.one.passed) whole 0 (omega arith)) t.two.passed (omega arith))
     (did_seq (did_expect c.in_ok-expect.ensures) (did_seq (did_expect c.in_ok-name.ensures) (did_seq (did (c.in_ok-head.ensures _ _)) (did_seq (did_expect c.in_ok-expect-2.ensures) (did_seq (did (c.in_ok-list.ensures _ _)) (did_turned (did_seq (did_push (did_push (did c.in_ok-inner.ensures) c.push-block.ensures) c.push-whole.ensures) (did_expect c.in_ok-expect-3.ensures))))))))))

@@ -11,7 +11,7 @@ pub loop-descent-init : goal.loop-descent-init
 loop-descent-init c =
     record {
       leads = λ d e. record {
-        on = λ p' b. did_map (λ v g x. spares_more (spares_leaf _ x.one.one.passed (entry_same c.node.ensures refl (place_is x.one.one) refl refl refl) x.one.two) x.two) (did_seq (did_push (did_expect c.in_ok-word.ensures) c.push-all.ensures) b);
+        on = λ p' b. did_map (λ v g x. spares_more (spares_leaf _ x.one.one.passed (entry_same c.placed.ensures refl (place_is x.one.one) refl refl refl) x.one.two) x.two) (did_seq (did_push (did_expect c.in_ok-word.ensures) c.push-all.ensures) b);
         off = λ k p' b. fails_then (did_push (did_expect c.in_ok-word.ensures) c.push-all.ensures) b;
       };
       all = c.push-all.ensures.is;

@@ -53,7 +53,7 @@ pub stat-returns-in-Exit : goal.stat-returns-in-Exit
 stat-returns-in-Exit t c =
     let k = c.in-Exit.ensures.coded in
     goes_ok c.push.ensures.is (did_node (did_left (on_by 13 k tt tt) (did_right (off_by 13 k tt tt) (did_left (on_by 13 k tt tt) (did_map
-    (λ v g x. lays_lift 1 (leaf_lays {n = 0} _ x.one.passed (entry_same c.node.ensures refl (place_is x.one) refl refl refl) x.two))
+    (λ v g x. lays_lift 1 (leaf_lays {n = 0} _ x.one.passed (entry_same c.placed.ensures refl (place_is x.one) refl refl refl) x.two))
     (did_push (did_on c.advance-word.ensures (on_by 13 k tt tt)) c.push.ensures))))))
 
 pub stat-returns-in-If : goal.stat-returns-in-If
@@ -153,7 +153,7 @@ more_arms-loop-descent-preserved t c =
           let b = f.two in
           let p = b.two in
           extends_item y.one.passed
-          (binary_lays f.one b.one.passed p.one p.two (entry_same c.arm.ensures refl (place_is y.one) refl (rooted (c.in_ok-condition.ensures 0)) (rooted c.in_ok-body.ensures)) 0 (omega arith)) x.two
+          (binary_lays f.one b.one.passed p.one p.two (entry_same c.placed.ensures refl (place_is y.one) refl (rooted (c.in_ok-condition.ensures 0)) (rooted c.in_ok-body.ensures)) 0 (omega arith)) x.two
           (entry_same c.bare.ensures refl refl refl i.all c.push-item.ensures.is) 0 (omega arith))
           a);
       all = c.push-all.ensures.is;
@@ -221,10 +221,10 @@ if_statement-returns t c =
     let p = f.one in
     let z = f.two in
     let u = z.two in
-    let l₁ = binary_lays a.one b.one.passed p.one p.two (entry_same c.arm.ensures refl (place_is y.one) refl (rooted (c.in_ok-condition.ensures 0)) (rooted c.in_ok-body.ensures)) 0 (omega arith) in
+    let l₁ = binary_lays a.one b.one.passed p.one p.two (entry_same c.placed.ensures refl (place_is y.one) refl (rooted (c.in_ok-condition.ensures 0)) (rooted c.in_ok-body.ensures)) 0 (omega arith) in
     let l₃ = lays_close {n = 1} u.one u.two.passed 0 (omega arith) in
     lays_spend y.one.passed (binary_lays {n = 0} (lays_more l₁ z.one) passed_none l₃ x.two
-    (entry_same c.node.ensures refl (place_is y.one) (place_is u.two) (rooted c.in_ok-arms.ensures) (rooted c.in_ok-other.ensures ∙ ap (λ m. m - 1) (sym u.two.passed.used))) 1 (omega arith)))
+    (entry_same c.placed-2.ensures refl (place_is y.one) (place_is u.two) (rooted c.in_ok-arms.ensures) (rooted c.in_ok-other.ensures ∙ ap (λ m. m - 1) (sym u.two.passed.used))) 1 (omega arith)))
     (did_push (did_within c.in_ok-word.ensures (did_seq (did (c.in_ok-condition.ensures _)) (did_seq (did_expect c.in_ok-expect.ensures) (did_seq (did_push (did c.in_ok-body.ensures) c.push-first.ensures) (did_seq (did c.in_ok-arms.ensures) (did_seq (did c.in_ok-other.ensures) (did_expect c.in_ok-end.ensures))))))) c.push.ensures)))
 
 pub while_statement-returns-in_err-word : goal.while_statement-returns-in_err-word
@@ -258,7 +258,7 @@ while_statement-returns t c =
     let b = a.two in
     let u = b.two in
     lays_passed y.one.passed (binary_lays a.one b.one.passed (lays_close {n = 1} u.one u.two.passed 0 (omega arith)) x.two
-    (entry_same c.node.ensures refl (place_is y.one) (place_is u.two) (rooted (c.in_ok-condition.ensures 0)) (rooted c.in_ok-body.ensures ∙ ap (λ m. m - 1) (sym u.two.passed.used))) 0 (omega arith)))
+    (entry_same c.placed.ensures refl (place_is y.one) (place_is u.two) (rooted (c.in_ok-condition.ensures 0)) (rooted c.in_ok-body.ensures ∙ ap (λ m. m - 1) (sym u.two.passed.used))) 0 (omega arith)))
     (did_push (did_within c.in_ok-word.ensures (did_seq (did (c.in_ok-condition.ensures _)) (did_seq (did_expect c.in_ok-expect.ensures) (did_seq (did c.in_ok-body.ensures) (did_expect c.in_ok-end.ensures))))) c.push.ensures)))
 
 pub for_statement-returns-in_err-word : goal.for_statement-returns-in_err-word
@@ -292,7 +292,7 @@ for_statement-returns t c =
     let b = a.two in
     let u = b.two in
     lays_passed y.one.passed (binary_lays a.one b.one.passed (lays_close {n = 1} u.one u.two.passed 0 (omega arith)) x.two
-    (entry_same c.node.ensures refl (place_is y.one) (place_is u.two) (rooted (c.in_ok-head.ensures 0)) (rooted c.in_ok-body.ensures ∙ ap (λ m. m - 1) (sym u.two.passed.used))) 0 (omega arith)))
+    (entry_same c.placed.ensures refl (place_is y.one) (place_is u.two) (rooted (c.in_ok-head.ensures 0)) (rooted c.in_ok-body.ensures ∙ ap (λ m. m - 1) (sym u.two.passed.used))) 0 (omega arith)))
     (did_push (did_within c.in_ok-word.ensures (did_seq (did (c.in_ok-head.ensures _)) (did_seq (did_expect c.in_ok-expect.ensures) (did_seq (did c.in_ok-body.ensures) (did_expect c.in_ok-end.ensures))))) c.push.ensures)))
 
 pub repeat_statement-returns-in_err-word : goal.repeat_statement-returns-in_err-word
@@ -319,7 +319,7 @@ repeat_statement-returns t c =
     let y = x.one in
     let a = y.two in
     let b = a.two in
-    lays_passed y.one.passed (binary_lays a.one b.one.passed b.two x.two (entry_same c.node.ensures refl (place_is y.one) refl (rooted c.in_ok-body.ensures) (rooted (c.in_ok-condition.ensures 0))) 0 (omega arith)))
+    lays_passed y.one.passed (binary_lays a.one b.one.passed b.two x.two (entry_same c.placed.ensures refl (place_is y.one) refl (rooted c.in_ok-body.ensures) (rooted (c.in_ok-condition.ensures 0))) 0 (omega arith)))
     (did_push (did_within c.in_ok-word.ensures (did_seq (did c.in_ok-body.ensures) (did_seq (did_expect c.in_ok-expect.ensures) (did (c.in_ok-condition.ensures _))))) c.push.ensures)))
 
 pub loop_statement-returns-in_err-word : goal.loop_statement-returns-in_err-word
@@ -342,5 +342,5 @@ loop_statement-returns t c =
     (λ v g x.
     let y = x.one in
     let a = y.two in
-    unary_lays {m = 1} {n = 1} y.one.passed a.one a.two.passed x.two (entry_same c.node.ensures refl (place_is y.one) (place_is a.two) (rooted c.in_ok-body.ensures) refl) 0 (omega arith))
+    unary_lays {m = 1} {n = 1} y.one.passed a.one a.two.passed x.two (entry_same c.placed.ensures refl (place_is y.one) (place_is a.two) (rooted c.in_ok-body.ensures) refl) 0 (omega arith))
     (did_push (did_within c.in_ok-word.ensures (did_seq (did c.in_ok-body.ensures) (did_expect c.in_ok-end.ensures))) c.push.ensures)))

@@ -54,5 +54,5 @@ returns-in_ok-part-in_default c e =
     let z = y.two in
     lays_as (ap (λ q. act s rs Action (v.0, q)) z.is)
     (unary_lays {m = 1} {n = 0} y.one.passed z.wrote passed_none x.two
-    (entry_same c.node.ensures refl (place_is y.one) (length_is n.1.keeps y.one c.word_length-length.ensures) (rooted a) refl) 0 (omega arith)))
+    (entry_same c.placed.ensures refl (place_is y.one) (length_is n.1.keeps y.one c.word_length-length.ensures) (rooted a) refl) 0 (omega arith)))
     (did_push (did_seq (did_expect n) (did_inr o (did a))) c.push.ensures)))

@@ -17,5 +17,5 @@ returns c e =
     goes_ok c.push.ensures.is (did_map
     (λ v g x.
     let y = x.one in
-    binary_lays y.one y.two.one.passed y.two.two x.two (entry_same c.node.ensures refl (place_is y.two.one) refl (rooted (c.in_ok-variable.ensures e)) (rooted (c.in_ok-value.ensures e))) 0 (omega arith))
+    binary_lays y.one y.two.one.passed y.two.two x.two (entry_same c.placed.ensures refl (place_is y.two.one) refl (rooted (c.in_ok-variable.ensures e)) (rooted (c.in_ok-value.ensures e))) 0 (omega arith))
     (did_push (did_seq (did (c.in_ok-variable.ensures e)) (did_seq (did_expect c.in_ok-becomes.ensures) (did (c.in_ok-value.ensures e)))) c.push.ensures))

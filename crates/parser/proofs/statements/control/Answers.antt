@@ -34,5 +34,5 @@ returns c e =
     let l₁ = binary_lays y.one z.one.passed u.one.one u.one.two (entry_same c.bare.ensures refl refl refl (rooted (c.in_ok-first.ensures e)) (rooted (c.in_ok-last.ensures e))) 0 (omega arith) in
     let l₂ = binary_lays {n = 0} l₁ passed_none u.two x.one.two (entry_same c.bare-2.ensures refl refl refl c.push-limits.ensures.is (rooted (c.in_ok-step.ensures 0 e))) 2 (omega arith) in
     unary_lays {m = 2} {n = 0} (passed_both a.one.passed b.one.passed) l₂ passed_none x.two
-    (entry_same c.node.ensures refl (place_is a.one) (length_is n.1.keeps a.one c.word_length-length.ensures) c.push-terms.ensures.is refl) 0 (omega arith))
+    (entry_same c.placed.ensures refl (place_is a.one) (length_is n.1.keeps a.one c.word_length-length.ensures) c.push-terms.ensures.is refl) 0 (omega arith))
     (did_push (did_push (did_seq (did_expect c.in_ok-name.ensures) (did_seq (did_expect c.in_ok-expect.ensures) (did_seq (did (c.in_ok-first.ensures e)) (did_seq (did_expect c.in_ok-expect-2.ensures) (did_seq (did_push (did (c.in_ok-last.ensures e)) c.push-limits.ensures) (did (c.in_ok-step.ensures _ e))))))) c.push-terms.ensures) c.push.ensures)))

@@ -14,5 +14,5 @@ returns c e =
     goes_ok c.push.ensures.is (did_node (did_map
     (λ v g x.
     let y = x.one in
-    unary_lays {m = 1} {n = 0} y.one.passed y.two passed_none x.two (entry_same c.node.ensures refl (place_is y.one) refl (rooted (c.in_ok-value.ensures e)) refl) 0 (omega arith))
+    unary_lays {m = 1} {n = 0} y.one.passed y.two passed_none x.two (entry_same c.placed.ensures refl (place_is y.one) refl (rooted (c.in_ok-value.ensures e)) refl) 0 (omega arith))
     (did_push (did_seq (did_expect c.in_ok-word.ensures) (did (c.in_ok-value.ensures e))) c.push.ensures)))

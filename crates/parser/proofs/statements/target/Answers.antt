@@ -18,7 +18,7 @@ returns-then-is_next c e =
     (λ v g x.
     let y = x.one in
     lays_as (ap (targeted c.args.name.place (word_length s c.args.name.place)) y.is)
-    (unary_lays {m = 0} {n = 0} passed_none y.wrote passed_none x.two (entry_same c.node.ensures refl refl c.word_length-length.ensures (rooted (c.in_ok-part.ensures e)) refl) 1 (omega arith)))
+    (unary_lays {m = 0} {n = 0} passed_none y.wrote passed_none x.two (entry_same c.placed.ensures refl refl c.word_length-length.ensures (rooted (c.in_ok-part.ensures e)) refl) 1 (omega arith)))
     (did_push (did_inl c.if-is_next.ensures (did (c.in_ok-part.ensures e))) c.push.ensures))
 
 pub returns : goal.returns
@@ -26,5 +26,5 @@ returns c e =
     let s = c.args.descent.now.source.now in
     goes_ok c.push-2.ensures.is (did_map
     (λ v g x. lays_as (ap (targeted c.args.name.place (word_length s c.args.name.place)) x.one.is)
-    (leaf_adds (label kind.Name EndOfSource c.args.name.place (word_length s c.args.name.place)) x.one.wrote (entry_same c.node-2.ensures refl refl c.word_length-length.ensures refl refl) x.two))
+    (leaf_adds (label kind.Name EndOfSource c.args.name.place (word_length s c.args.name.place)) x.one.wrote (entry_same c.placed-2.ensures refl refl c.word_length-length.ensures refl refl) x.two))
     (did_push (did_inr c.if-is_next.ensures (did_none refl)) c.push-2.ensures))

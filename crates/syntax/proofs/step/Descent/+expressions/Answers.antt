@@ -230,7 +230,7 @@ factor-returns-in_ok-expect-in-OpenRound t c e =
     (λ v g x.
     let y = x.one in
     let z = y.two in
-    unary_lays {m = 1} {n = 1} y.one.passed z.one z.two.passed x.two (entry_same c.node.ensures refl (place_is y.one) refl (rooted a) refl) 0 (omega arith))
+    unary_lays {m = 1} {n = 1} y.one.passed z.one z.two.passed x.two (entry_same c.placed.ensures refl (place_is y.one) refl (rooted a) refl) 0 (omega arith))
     (did_push (did_around c.in_ok-opening-in-OpenRound.ensures (did_seq (did a) (did_expect c.in_ok-expect-in-OpenRound.ensures))) c.push.ensures)))))))
 
 pub factor-returns-in_err-operator-in_default : goal.factor-returns-in_err-operator-in_default
@@ -254,7 +254,7 @@ factor-returns-in_ok-operand-in_default t c e =
     goes_ok c.push-in_default.ensures.is (did_node (did_right (off_by (code c.next.result) k tt (search rules)) (did_right (off_by (code c.next.result) k tt (search rules)) (did_right (off_by (code c.next.result) k tt (search rules)) (did_right (off_by (code c.next.result) k tt (search rules)) (did_map
     (λ v g x.
     let y = x.one in
-    unary_lays {m = 1} {n = 0} y.one.passed y.two passed_none x.two (entry_same c.node-in_default.ensures (tag_is y.one) (place_is y.one) refl (rooted a) refl) 0 (omega arith))
+    unary_lays {m = 1} {n = 0} y.one.passed y.two passed_none x.two (entry_same c.node.ensures (tag_is y.one) (place_is y.one) refl (rooted a) refl) 0 (omega arith))
     (did_push (did_around c.in_ok-operator-in_default.ensures (did a)) c.push-in_default.ensures)))))))
 
 pub selection-returns-in_err-part-in-OpenSquare : goal.selection-returns-in_err-part-in-OpenSquare
@@ -272,7 +272,7 @@ selection-returns-in_ok-part-in-OpenSquare t c e =
     let y = x.one in
     let z = y.wrote in
     lays_as (ap (selected c.args.name.place (word_length s c.args.name.place)) (y.is ∙ ap inl z.is))
-    (unary_lays {m = 0} {n = 0} passed_none z.wrote passed_none x.two (entry_same c.node.ensures refl refl c.word_length-length.ensures (rooted a) refl) 1 (omega arith)))
+    (unary_lays {m = 0} {n = 0} passed_none z.wrote passed_none x.two (entry_same c.placed.ensures refl refl c.word_length-length.ensures (rooted a) refl) 1 (omega arith)))
     (did_push (did_inl (on_by 60 k tt tt) (did_inl (on_by 60 k tt tt) (did a))) c.push.ensures))
 
 pub selection-returns-in_err-part-in-OpenRound : goal.selection-returns-in_err-part-in-OpenRound
@@ -290,7 +290,7 @@ selection-returns-in_ok-part-in-OpenRound t c e =
     let y = x.one in
     let z = y.wrote in
     lays_as (ap (selected c.args.name.place (word_length s c.args.name.place)) (y.is ∙ ap inl z.is))
-    (unary_lays {m = 0} {n = 0} passed_none z.wrote passed_none x.two (entry_same c.node-in-OpenRound.ensures refl refl c.word_length-length.ensures (rooted a) refl) 1 (omega arith)))
+    (unary_lays {m = 0} {n = 0} passed_none z.wrote passed_none x.two (entry_same c.placed-in-OpenRound.ensures refl refl c.word_length-length.ensures (rooted a) refl) 1 (omega arith)))
     (did_push (did_inl (on_by 58 k tt tt) (did_inr (off_by 58 k tt tt) (did a))) c.push-in-OpenRound.ensures))
 
 pub selection-returns-in_default : goal.selection-returns-in_default
@@ -300,7 +300,7 @@ selection-returns-in_default t c e =
     (λ v g x.
     let y = x.one in
     lays_as (ap (selected c.args.name.place (word_length s c.args.name.place)) y.is)
-    (leaf_adds (label kind.Name EndOfSource c.args.name.place (word_length s c.args.name.place)) y.wrote (entry_same c.node-in_default.ensures refl refl c.word_length-length.ensures refl refl) x.two))
+    (leaf_adds (label kind.Name EndOfSource c.args.name.place (word_length s c.args.name.place)) y.wrote (entry_same c.placed-in_default.ensures refl refl c.word_length-length.ensures refl refl) x.two))
     (did_push (did_inr (off_by (code c.next.result) c.next.ensures.coded tt (search rules)) (did_none refl)) c.push-in_default.ensures))
 
 pub index-returns-in_err-opening : goal.index-returns-in_err-opening
@@ -324,7 +324,7 @@ index-returns t c e =
     (λ v g x.
     let y = x.one in
     let z = y.two in
-    unary_lays {m = 1} {n = 1} y.one.passed z.one z.two.passed x.two (entry_same c.node.ensures refl (place_is y.one) refl (rooted a) refl) 0 (omega arith))
+    unary_lays {m = 1} {n = 1} y.one.passed z.one z.two.passed x.two (entry_same c.placed.ensures refl (place_is y.one) refl (rooted a) refl) 0 (omega arith))
     (did_push (did_around c.in_ok-opening.ensures (did_seq (did a) (did_expect c.in_ok-expect.ensures))) c.push.ensures)))
 
 pub args-returns-in_err-inside : goal.args-returns-in_err-inside

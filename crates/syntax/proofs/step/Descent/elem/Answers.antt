@@ -24,7 +24,7 @@ returns-in_ok-number-in-Minus c d e =
     let a = x.one.one in
     lays_as (ap (λ y. act s rs Elem (inl (y, v.1))) a.is)
     (leaf_lays {n = 1} _ (passed_both a.wrote.passed x.one.two.passed)
-    (entry_same c.node.ensures refl (place_is a.wrote) (number_is (keeps_both c.advance-sign.ensures.keeps c.in_ok-number-in-Minus.ensures.1.keeps) x.one.two c.number_at-value.ensures) refl refl) x.two))
+    (entry_same c.placed.ensures refl (place_is a.wrote) (number_is (keeps_both c.advance-sign.ensures.keeps c.in_ok-number-in-Minus.ensures.1.keeps) x.one.two c.number_at-value.ensures) refl refl) x.two))
     (did_push (did_seq (did_inl o (did_on c.advance-sign.ensures o)) (did_expect c.in_ok-number-in-Minus.ensures)) c.push.ensures))))
 
 pub returns-in-Number : goal.returns-in-Number

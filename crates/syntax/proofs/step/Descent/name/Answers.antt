@@ -9,5 +9,5 @@ returns-in_err-name c d e = goes_out c.from_residual.ensures.1 (fails_expect c.i
 pub returns : goal.returns
 returns c d e =
     let a = c.in_ok-name.ensures in
-    goes_ok c.push.ensures.is (did_map (λ v g x. leaf_lays {n = 0} _ x.one.passed (entry_same c.node.ensures refl (place_is x.one) (length_is a.1.keeps x.one c.word_length-length.ensures) refl refl) x.two)
+    goes_ok c.push.ensures.is (did_map (λ v g x. leaf_lays {n = 0} _ x.one.passed (entry_same c.placed.ensures refl (place_is x.one) (length_is a.1.keeps x.one c.word_length-length.ensures) refl refl) x.two)
     (did_push (did_expect a) c.push.ensures))

@@ -19,5 +19,5 @@ returns c d e =
     goes_ok c.push.ensures.is (did_node (did_map
     (λ v g x.
     let y = x.one in
-    unary_lays {m = 1} {n = 1} y.one.passed y.two.one y.two.two.passed x.two (entry_same c.node.ensures refl (place_is y.one) refl (rooted a) refl) 0 (omega arith))
+    unary_lays {m = 1} {n = 1} y.one.passed y.two.one y.two.two.passed x.two (entry_same c.placed.ensures refl (place_is y.one) refl (rooted a) refl) 0 (omega arith))
     (did_push (did_seq (did_expect c.in_ok-opening.ensures) (did_seq (did a) (did_expect c.in_ok-expect.ensures))) c.push.ensures)))
