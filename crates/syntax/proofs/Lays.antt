@@ -199,17 +199,6 @@ extends_both {f} {c} {c₁} {c₂} {t} {t₁} {t₂} p q =
       laid = λ a n b l. q.laid (f a) n b (p.laid a n b l);
     }
 
--- symbols and a record over what was there
-pub extends_unary : {n : ℕ} {l : Label} {r : TreeRecord} {c c₁ c₂ : Cursor} {t t₁ t₂ : List TreeRecord} → Passed n c t c₁ t₁ → Added r c₁ t₁ c₂ t₂ → r ≡ entry l (c.used - 1) 0 → (j : ℕ) → 1 ≤ 2 * n + j → Extends j (λ a. unary l a) c t c₂ t₂
-extends_unary {n} {l} {r} {c} {c₁} {c₂} {t} {t₁} {t₂} p a e j z =
-    let h₀ = p.on in let h₁ = p.used in let h₂ = ap length p.same in let h₃ = a.at in let h₄ = a.most in let h₅ = a.long in
-    record {
-      long = omega arith;
-      grows = λ b. let g₀ = a.count b in omega arith;
-      few = omega arith;
-      laid = λ x i b d. laid_unary l (laid_passed d p) (e ∙ ap (λ v. entry l (v - 1) 0) (sym h₁)) a;
-    }
-
 -- one more part and the record that joins it, where the part leaves room for that
 pub extends_laid : {l : Label} {s : Syntax} {r : TreeRecord} {c c₁ c₂ : Cursor} {t t₁ t₂ : List TreeRecord} → length t₁ ≡ length t → Laid c.used t s c₁ t₁ → Added r c₁ t₁ c₂ t₂ → r ≡ entry l (c.used - 1) (c₁.used - 1) →
     suc (c₁.used + 2 * c.at) ≤ c.used + 2 * c₁.at → Extends 0 (λ a. binary l a s) c t c₂ t₂
@@ -247,10 +236,6 @@ pub spares_more : {s : Syntax} {f : Syntax → Syntax} {c c₁ c₂ : Cursor} {t
 spares_more {s} {c} {t} p q =
     let h₀ = p.few in let h₁ = q.few in let h₂ = p.long in let h₃ = q.long in
     record { long = omega arith; few = omega arith; laid = q.laid s c.used t p.laid }
-
--- the same tree under another name
-pub spares_as : {s u : Syntax} {c c' : Cursor} {t t' : List TreeRecord} → u ≡ s → Spares s c t c' t' → Spares u c t c' t'
-spares_as {c} {c'} {t} {t'} e p = subst (λ x. Spares x c t c' t') (sym e) p
 
 -- a record that joins such a tree to what was there
 pub extends_spared : {l : Label} {s : Syntax} {r : TreeRecord} {c c₁ c₂ : Cursor} {t t₁ t₂ : List TreeRecord} → Spares s c t c₁ t₁ → Added r c₁ t₁ c₂ t₂ → r ≡ entry l (c.used - 1) (c₁.used - 1) → Extends 0 (λ a. binary l a s) c t c₂ t₂

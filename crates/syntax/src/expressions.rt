@@ -122,6 +122,7 @@ impl Descent<'_> {
 
     // A loop for each list: one over the item and its test would need a clause over every grammar of an item.
     /// A term: factors.
+    // One loop for this and for sums would need the operand's rule as a ghost value and a clause on the closure that reads it, which is more than these lines.
     #[cycle(expressions)]
     fn term(&mut self, room: u8) -> Result<usize, Stop>
         ensures { (e : ℕ) → Parses room e 0 Term self.old result self.new }
@@ -153,6 +154,7 @@ impl Descent<'_> {
                 self.expect(Tag::CloseRound)?;
                 Ok(self.push(placed(NodeKind::Group, opening.place, 0, inner, 0)))
             }
+            // NOT, or a symbol that no factor begins with
             _ => {
                 let (operator, inside) = self.open(Tag::Not, room)?;
                 let operand = self.factor(inside)?;

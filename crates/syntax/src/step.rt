@@ -116,7 +116,7 @@ impl Descent<'_> {
         Stop::Impossible(self.here.at)
     }
 
-    /// Passes over the next symbol, which has to have the tag and encloses one of `room`, and answers it and the room inside.
+    /// Passes over the next symbol, which has to have the tag and encloses what follows, and answers it and the room left inside.
     pub fn open(&mut self, tag: Tag, room: u8) -> Result<(SymbolRecord, u8), Stop>
         ensures { Opens (code tag) room self.old result self.new }
     {
