@@ -120,7 +120,6 @@ impl Descent<'_> {
         Ok(self.push(node(NodeKind::Unary, sign.tag, sign.place, 0, operand, 0)))
     }
 
-    // A loop for each list: one over the item and its test would need a clause over every grammar of an item.
     /// A term: factors.
     // One loop for this and for sums would need the operand's rule as a ghost value and a clause on the closure that reads it, which is more than these lines.
     #[cycle(expressions)]
