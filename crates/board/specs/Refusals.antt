@@ -1,5 +1,5 @@
 -- The number of each refusal.
-use Rattle.std.specs.Prelude.{ℕ, Ok, Err, Result}
+use Rattle.std.specs.Prelude.{ℕ, List, ◌++◌, Ok, Err, codes, decimal, Result}
 use Rattle.board.specs.declared.refusal.Refusal.{Refusal}
 use Rattle.board.specs.declared.refusal.Refusal.TheVariants.{NoWord}
 
@@ -11,3 +11,7 @@ number_of NoWord = 53
 abbrev pub numbered : {X : Type 0} → Result X Refusal → Result X ℕ
 numbered (Ok x) = Ok x
 numbered (Err e) = Err (number_of e)
+
+-- a refusal as it is shown, by its number
+abbrev pub shown : Refusal → List ℕ
+shown r = codes "refused " ++ decimal (number_of r)

@@ -20,7 +20,13 @@ impl Refusal {
     }
 }
 
+// As a port's refusal shows: the two enums have no trait in common, and two words in it would not be one.
 impl fmt::Display for Refusal {
+    ghost use Rattle.std.specs.Prelude.{Some};
+    ghost use Rattle.board.specs.Refusals.{shown};
+
+    ghost output = { λ refusal. Some (shown refusal) };
+
     fn fmt<W: fmt::Write>(&self, f: &mut fmt::Formatter<W>) -> fmt::Result {
         write!(f, "refused {}", self.number())
     }

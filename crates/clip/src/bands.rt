@@ -9,6 +9,7 @@ use ports::refusal::Refusal;
 use ports::sample::Sample;
 
 /// A band for each channel.
+// Beside the offsets of a trim: an array of a type parameter would have to be known to have a size.
 #[derive(Drop)]
 pub struct Bands {
     pub(crate) each: [Band; 16],

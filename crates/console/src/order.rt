@@ -1,7 +1,7 @@
 ghost use Rattle.std.specs.Prelude.{◌≡◌};
 ghost use Rattle.console.specs.Orders.{port_command};
 
-use number::number;
+use number::read;
 use script::command::Command;
 use script::line::Line;
 
@@ -19,8 +19,8 @@ pub enum Order {
 impl Line for Order {
     fn from_words(words: &[&str]) -> Option<Order> {
         match *words {
-            ["run", budget] => Some(Order::Run(number(budget)?)),
-            ["peek", word] => Some(Order::Peek(number(word)?)),
+            ["run", budget] => Some(Order::Run(read(budget)?)),
+            ["peek", word] => Some(Order::Peek(read(word)?)),
             _ => match Command::from_words(words)? {
                 Command::Take { .. } | Command::Set { .. } => None,
                 command => Some(Order::Port(command)),

@@ -12,6 +12,7 @@ use script::answer::Answer;
 use script::command::Command;
 
 // The answer of a board's port to a command.
+// Beside that of a port: a board is none, and a trait for both would have these two calls alone.
 fn answer_port<P: Port>(board: &mut Board<P>, command: Command) -> Result<Answer, Refusal>
     ensures answer { numbered result ≡ port_reply (view P.Port.meaning board.old) command }
     ensures after { view P.Port.meaning board.new ≡ port_replied (view P.Port.meaning board.old) command }

@@ -6,3 +6,4 @@ pub mod Values
 pub mod Table
 pub mod Steps
 pub mod Laws
+pub mod Shown

@@ -98,6 +98,11 @@ impl From<Status> for Outcome {
 }
 
 impl fmt::Display for Outcome {
+    ghost use Rattle.std.specs.Prelude.{Some};
+    ghost use Rattle.instructions.specs.Shown.{shown_outcome};
+
+    ghost output = { λ outcome. Some (shown_outcome outcome) };
+
     fn fmt<W: fmt::Write>(&self, f: &mut fmt::Formatter<W>) -> fmt::Result {
         match *self {
             Outcome::Running => write!(f, "running"),
@@ -150,6 +155,11 @@ pub struct Ran {
 }
 
 impl fmt::Display for Ran {
+    ghost use Rattle.std.specs.Prelude.{Some};
+    ghost use Rattle.instructions.specs.Shown.{shown_run};
+
+    ghost output = { λ ran. Some (shown_run ran) };
+
     fn fmt<W: fmt::Write>(&self, f: &mut fmt::Formatter<W>) -> fmt::Result {
         write!(f, "{} {} {}", self.outcome, self.executed, self.events)
     }

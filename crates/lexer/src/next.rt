@@ -29,7 +29,7 @@ fn skip(source: &[u8], from: usize) -> Result<usize, Fault>
     let mut at = from.min(source.len());
     let mut depth: usize = 0;
     let mut opened: usize = 0;
-    // By place: a turn passes one byte or two, so no iterator over bytes counts the turns.
+    // By place, and no rest of the source: where a comment opens, and where the symbol stands, are what is answered.
     'turns: loop {
         match lead(&source[at..], depth > 0) {
             Lead::Done => {

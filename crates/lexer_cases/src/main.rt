@@ -50,6 +50,7 @@ fn answer(rt: &HostRuntime, line: &str, source: &[u8]) -> io::Result<()> {
 }
 
 // What a list of so many records, each at place 7, holds at its ends after a scan.
+// In each of the two programs: what they have in common is a line of the loop.
 fn held_after(rt: &HostRuntime, size: usize, source: &[u8]) -> io::Result<()> {
     let mut records = vec![in rt.alloc(); SymbolRecord {
         tag: Tag::Comma,

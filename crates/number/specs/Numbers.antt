@@ -11,7 +11,7 @@ Written word = IsNumeral 10 (without_leading_sign word)
 abbrev pub written : List ℕ → ℤ
 written word = signed_digits_value 10 word
 
--- r is the number that the word writes, as its type takes it, or none exactly if the type takes none that the word writes
+-- r is the number that the word writes, as its type takes it, or none if the word writes none of 64 bits that the type takes
 abbrev pub Reads : {X E : Type 0} → (ℤ → Result X E → Type 0) → List ℕ → Option X → Type 0
 Reads takes word (Some x) = Written word × takes (written word) (Ok x)
 Reads {E = E} takes word None = Written word → FitsSigned w64 (written word) → (e : E) × takes (written word) (Err e)

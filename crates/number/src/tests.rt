@@ -3,31 +3,31 @@ ghost use Rattle.std.specs.Prelude.{pos};
 ghost use Rattle.integer.specs.Ends.{integer};
 ghost use Rattle.number.specs.Numbers.{Number, whole};
 
-use crate::number;
+use crate::read;
 use ports::sample::Sample;
 
 fn sample(word: &str) -> Option<Sample>
     ensures { Number integer.low integer.high word.now result }
 {
-    number(word)
+    read(word)
 }
 
 fn channel(word: &str) -> Option<u8>
     ensures { Number (pos 0) (pos 255) word.now (whole result) }
 {
-    number(word)
+    read(word)
 }
 
 fn count(word: &str) -> Option<u16>
     ensures { Number (pos 0) (pos 65535) word.now (whole result) }
 {
-    number(word)
+    read(word)
 }
 
 fn size(word: &str) -> Option<u32>
     ensures { Number (pos 0) (pos 4294967295) word.now (whole result) }
 {
-    number(word)
+    read(word)
 }
 
 #[test]

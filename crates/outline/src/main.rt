@@ -59,7 +59,9 @@ fn is_placeless(kind: NodeKind) -> bool {
 
 // A line of the outline: two blanks for each level, the place, the kind and what belongs to it.
 fn show(rt: &HostRuntime, source: &[u8], record: TreeRecord, depth: usize) -> io::Result<()> {
-    print!(rt; "{}", "  ".repeat(rt.alloc(), depth)?)?;
+    for _ in 0..depth {
+        print!(rt; "  ")?;
+    }
     if is_placeless(record.kind) {
         print!(rt; "- {:?}", record.kind)?;
     } else {

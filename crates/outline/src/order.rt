@@ -40,6 +40,7 @@ fn head(
     Ok(depth + 1)
 }
 
+// By index: the records of a tree lie in a lent list, and a part is an index into it.
 /// Adds the lines of the tree whose root is at an index.
 #[cycle(add_part)]
 fn add(

@@ -12,6 +12,7 @@ use crate::statements::{LIMIT, stats};
 use syntax::{Descent, NodeKind, Stop, bare, begins_elem, placed};
 use vocabulary::Tag;
 
+// A loop for each list: one over the item and its test would need a clause over every grammar of an item.
 /// Names with commas between them.
 fn names(descent: &mut Descent<'_>) -> Result<usize, Stop>
     ensures { (d e : ℕ) → Goes d e (seq n (rep comma_name)) (λ s rs v. Lays 0 (names s rs v.0 v.1)) descent.old result descent.new }
@@ -148,6 +149,7 @@ fn type_of(descent: &mut Descent<'_>) -> Result<usize, Stop>
     }
 }
 
+// A loop for each list: one over the item and its test would need a clause over every grammar of an item.
 /// The list of the constants that CONST declares.
 fn constants(descent: &mut Descent<'_>) -> Result<usize, Stop>
     ensures { (d e : ℕ) → Goes d e const_part (λ s rs v. Spares (constants_of s rs v)) descent.old result descent.new }
@@ -166,6 +168,7 @@ fn constants(descent: &mut Descent<'_>) -> Result<usize, Stop>
     Ok(all)
 }
 
+// A loop for each list: one over the item and its test would need a clause over every grammar of an item.
 /// The list of the variables that VAR declares.
 fn variables(descent: &mut Descent<'_>) -> Result<usize, Stop>
     ensures { (d e : ℕ) → Goes d e var_part (λ s rs v. Spares (variables_of s rs v)) descent.old result descent.new }
@@ -183,6 +186,7 @@ fn variables(descent: &mut Descent<'_>) -> Result<usize, Stop>
     Ok(all)
 }
 
+// A list of tags of its own: a function over a list of tags would say no more.
 /// A symbol that declarations of constants or of variables begin with.
 fn begins_decl(tag: Tag) -> bool
     ensures { result ≡ mem (code tag) (firsts Decl) }
@@ -231,6 +235,7 @@ fn proc(descent: &mut Descent<'_>) -> Result<usize, Stop>
     Ok(whole)
 }
 
+// A list of tags of its own: a function over a list of tags would say no more.
 /// A symbol that declarations or procedures begin with.
 fn begins_declaration(tag: Tag) -> bool
     ensures { result ≡ mem (code tag) declaring }

@@ -15,6 +15,7 @@ use vocabulary::Tag;
 /// At most so many symbols may enclose a factor, and so many a statement.
 pub(crate) const LIMIT: u8 = 16;
 
+// A loop for each list: one over the item and its test would need a clause over every grammar of an item.
 /// Statements with semicolons between them, inside at most `room` more enclosures.
 #[cycle(statements)]
 pub(crate) fn stats(descent: &mut Descent<'_>, room: u8) -> Result<usize, Stop>
@@ -72,6 +73,7 @@ fn assignment(descent: &mut Descent<'_>, name: SymbolRecord) -> Result<usize, St
     Ok(descent.push(placed(NodeKind::Assign, becomes.place, 0, variable, value)))
 }
 
+// A part that may be absent, written out: a function over the part would need a clause over every grammar of one.
 /// The arguments of a call, or nothing.
 fn arguments(descent: &mut Descent<'_>) -> Result<usize, Stop>
     ensures { (e : ℕ) → Goes limit e (opt (ref Args)) (λ s rs v. Lays 1 (maybe s rs v)) descent.old result descent.new }
@@ -187,6 +189,7 @@ fn loop_statement(descent: &mut Descent<'_>, room: u8) -> Result<usize, Stop>
     Ok(descent.push(placed(NodeKind::Loop, word.place, end.place as usize, body, 0)))
 }
 
+// A part that may be absent, written out: a function over the part would need a clause over every grammar of one.
 /// The value behind RETURN, or nothing.
 fn returned(descent: &mut Descent<'_>) -> Result<usize, Stop>
     ensures { (e : ℕ) → Goes limit e (opt (ref Expr)) (λ s rs v. Lays 1 (maybe s rs v)) descent.old result descent.new }

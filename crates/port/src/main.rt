@@ -1,4 +1,5 @@
 //! Reads a script from standard input and answers each line.
+// A program of its own, since the gate runs each program on one script.
 #![tactic(auto)]
 
 use player::play::play;

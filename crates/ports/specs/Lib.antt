@@ -6,3 +6,4 @@ pub mod Layers
 pub mod Stored
 pub mod Events
 pub mod Samples
+pub mod Shown

@@ -11,6 +11,11 @@ pub struct Seen {
 }
 
 impl fmt::Display for Seen {
+    ghost use Rattle.std.specs.Prelude.{Some};
+    ghost use Rattle.ports.specs.Shown.{shown_seen};
+
+    ghost output = { λ seen. Some (shown_seen seen) };
+
     fn fmt<W: fmt::Write>(&self, f: &mut fmt::Formatter<W>) -> fmt::Result {
         write!(f, "{} {}", self.waiting, self.last)
     }

@@ -15,6 +15,7 @@ use ports::seen::Seen;
 /// No channel is deeper.
 pub const DEEPEST: usize = 4096;
 
+// A head and a count beside lent memory: a port without a heap has no VecDeque.
 /// Where one channel's samples lie, and the value last set on it.
 #[derive(Clone, Copy)]
 pub struct Ring {

@@ -3,6 +3,7 @@ use ports::seen::Seen;
 use std::fmt;
 
 /// The answer to a line of a script that was not refused.
+// Five answers: no Option or Result has so many.
 #[derive(Clone, Copy)]
 pub enum Answer {
     /// It was done.

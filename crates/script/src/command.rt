@@ -1,7 +1,7 @@
 ghost use Rattle.std.specs.Prelude.{◌≡◌};
 
 use crate::line::Line;
-use number::number;
+use number::read;
 use ports::sample::Sample;
 
 /// What a line of a script asks.
@@ -46,30 +46,30 @@ pub enum Command {
 impl Line for Command {
     fn from_words(words: &[&str]) -> Option<Command> {
         match *words {
-            ["port", "queue", samples] => Some(Command::Queue(number(samples)?)),
+            ["port", "queue", samples] => Some(Command::Queue(read(samples)?)),
             ["port", "latch"] => Some(Command::Latch),
             ["trim", channel, offset] => Some(Command::Trim {
-                channel: number(channel)?,
-                offset: number(offset)?,
+                channel: read(channel)?,
+                offset: read(offset)?,
             }),
             ["clip", channel, low, high] => Some(Command::Clip {
-                channel: number(channel)?,
-                low: number(low)?,
-                high: number(high)?,
+                channel: read(channel)?,
+                low: read(low)?,
+                high: read(high)?,
             }),
             ["feed", channel, value] => Some(Command::Feed {
-                channel: number(channel)?,
-                value: number(value)?,
+                channel: read(channel)?,
+                value: read(value)?,
             }),
             ["look", channel] => Some(Command::Look {
-                channel: number(channel)?,
+                channel: read(channel)?,
             }),
             ["take", channel] => Some(Command::Take {
-                channel: number(channel)?,
+                channel: read(channel)?,
             }),
             ["set", channel, value] => Some(Command::Set {
-                channel: number(channel)?,
-                value: number(value)?,
+                channel: read(channel)?,
+                value: read(value)?,
             }),
             _ => None,
         }

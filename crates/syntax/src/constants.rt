@@ -11,6 +11,7 @@ use crate::step::{Descent, Stop};
 use crate::tree::{NodeKind, bare, placed};
 use vocabulary::Tag;
 
+// A list of tags of its own: a function over a list of tags would say no more.
 /// A symbol that a constant element begins with.
 pub fn begins_elem(tag: Tag) -> bool
     ensures { result ≡ mem (code tag) (firsts Elem) }
@@ -28,6 +29,7 @@ impl Descent<'_> {
         Ok(self.push(placed(NodeKind::Name, name.place, length, 0, 0)))
     }
 
+    // As a name, with a value in place of a length: the two have nothing but the order of their steps in common.
     /// A number.
     pub(crate) fn numeral(&mut self) -> Result<usize, Stop>
         ensures { (d e : ℕ) → Goes d e numeral (λ s rs v. Lays 0 (number_of s rs v)) self.old result self.new }

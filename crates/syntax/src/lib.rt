@@ -11,3 +11,4 @@ pub use constants::begins_elem;
 pub use expressions::begins_expr;
 pub use step::{Cursor, Descent, Stop};
 pub use tree::{NodeKind, TreeRecord, bare, node, placed};
+pub use words::word_length;

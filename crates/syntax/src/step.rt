@@ -23,6 +23,7 @@ pub enum Stop {
     TooDeep(usize),
 }
 
+// Lent lists with how far they are read and filled: a compiler without a heap has no Vec to push to.
 /// A descent over the symbols of a source, and the tree that it writes.
 #[derive(Drop)]
 pub struct Descent<'a> {
@@ -138,6 +139,7 @@ impl Descent<'_> {
         }
     }
 
+    // At a symbol, what the functions of a place answer: no caller outside has the source.
     /// How long the word is that the symbol stands for.
     pub fn word_length(&self, symbol: SymbolRecord) -> usize
         ensures { result ≡ word_length self.now.source.now symbol.place }

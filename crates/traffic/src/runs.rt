@@ -34,7 +34,7 @@ pub fn carry_out<P: Port>(
     ensures lent { P.Port.lenders port.new ≡ P.Port.lenders port.old }
 {
     let count = actions.len().min(outcomes.len());
-    // By index: behind a `zip` with `iter_mut` nothing is known of what was written.
+    // By index: `enumerate` over `iter_mut` would look the action up by its index too, and behind a `zip` nothing is known of what was written.
     for i in 0..count {
         outcomes[i] = act(port, c, actions[i]);
     }
