@@ -1,1 +1,3 @@
 pub mod Replies
+pub mod Prepared
+pub mod Lines

@@ -1,4 +1,6 @@
-ghost use Rattle.std.specs.Prelude.{◌≡◌};
+ghost use Rattle.std.specs.Prelude.{◌≡◌, IfOk};
+ghost use Rattle.std.specs.List.{FoldsTo};
+ghost use Rattle.player.specs.Lines.{Answered};
 ghost use Rattle.player.specs.Replies.{reply, replied};
 ghost use Rattle.ports.specs.Refusals.{numbered};
 
@@ -36,13 +38,15 @@ pub fn answer_lines<L: Copy, A: fmt::Display + Drop, F: FnMut(L) -> A>(
     mut answer: F,
 ) -> io::Result<()>
     requires { F.IsAlwaysCallable answer }
+    ensures { IfOk result (λ _. (last : F) × FoldsTo (Answered F.step) answer script.now last) }
 {
-    for line in script {
-        let Some(line) = *line else {
-            println!(rt; "{}", Answer::Unknown)?;
-            continue;
-        };
-        println!(rt; "{}", answer(line))?;
+    let mut rest = script;
+    while let Some((line, behind)) = rest.split_first() {
+        match *line {
+            Some(line) => println!(rt; "{}", answer(line))?,
+            None => println!(rt; "{}", Answer::Unknown)?,
+        }
+        rest = behind;
     }
     Ok(())
 }

@@ -1,3 +1,5 @@
+ghost use Rattle.player.specs.Prepared.{Prepared};
+
 use clip::Clip;
 use latch::Latch;
 use ports::port::Port;
@@ -13,8 +15,9 @@ const MOST: u32 = 65_536;
 
 /// What is done with a port once a script has set it up.
 pub trait Use<L>: Drop {
-    /// Uses the port for the rest of the script.
-    fn on<P: Port + Drop>(self, port: P, rest: &[Option<L>]) -> io::Result<()>;
+    /// Uses the port, which is as a script sets it up, for the rest of the script.
+    fn on<P: Port + Drop>(self, port: P, rest: &[Option<L>]) -> io::Result<()>
+        requires { Prepared (P.Port.meaning port) };
 }
 
 /// Answers the settings at the start of a script, and hands back the rest of the script.
