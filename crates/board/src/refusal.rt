@@ -20,7 +20,7 @@ impl Refusal {
     }
 }
 
-// As a port's refusal shows: the two enums have no trait in common, and two words in it would not be one.
+// Shown as a port's refusal is: one impl for both would need a trait of their own, for these two lines.
 impl fmt::Display for Refusal {
     ghost use Rattle.std.specs.Prelude.{Some};
     ghost use Rattle.board.specs.Refusals.{shown};

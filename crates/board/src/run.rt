@@ -26,6 +26,7 @@ fn shown_word(z: i32) -> i32
 }
 
 // Hands a sample to the Take that asked for it.
+// Its index lies within the list: `processor` answers so, and a memory alone can stand at any.
 fn deliver(m: &mut Memory, z: i16)
     requires { m.old.pc + 1 < 2 ^ 64 }
     ensures { m.new ≡ delivered z m.old }

@@ -9,7 +9,7 @@ use ports::refusal::Refusal;
 use ports::sample::Sample;
 
 /// A band for each channel.
-// Beside the offsets of a trim: an array of a type parameter would have to be known to have a size.
+// Beside the offsets of a trim: one struct for both would hold an array of a type parameter, which no generic struct may.
 #[derive(Drop)]
 pub struct Bands {
     pub(crate) each: [Band; 16],

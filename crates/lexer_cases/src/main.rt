@@ -14,7 +14,7 @@ use vocabulary::{Tag, number_value};
 
 const SHOWN: usize = 12;
 
-// What a number at a place stands for.
+// What a number at a place stands for: a record keeps no text.
 fn value_at(source: &[u8], place: usize) -> Option<i32> {
     match next_symbol(source, place).ok()?.symbol {
         Symbol::Number(text) => number_value(text).ok(),
@@ -50,7 +50,7 @@ fn answer(rt: &HostRuntime, line: &str, source: &[u8]) -> io::Result<()> {
 }
 
 // What a list of so many records, each at place 7, holds at its ends after a scan.
-// In each of the two programs: what they have in common is a line of the loop.
+// Also in the program that tries the parser, which fills two lists: in common is the loop over two records.
 fn held_after(rt: &HostRuntime, size: usize, source: &[u8]) -> io::Result<()> {
     let mut records = vec![in rt.alloc(); SymbolRecord {
         tag: Tag::Comma,

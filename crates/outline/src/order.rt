@@ -15,7 +15,7 @@ pub struct Line {
     pub depth: usize,
 }
 
-// A list of kinds, as others of tags: a function over a list would say no more.
+// A list of kinds of its own: a function over a list of kinds would say no more.
 /// Whether a node only joins others, or stands for nothing: it gets no line, and its parts stand in its stead.
 fn joins(kind: NodeKind) -> bool
     ensures { result ≡ joining kind }
@@ -66,6 +66,7 @@ fn add(
 }
 
 /// Adds the lines of a part of the node at an index.
+// By index, as the node itself.
 #[cycle(add_part)]
 fn part(
     tree: &[TreeRecord],

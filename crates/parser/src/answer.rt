@@ -29,6 +29,7 @@ fn clear(tree: &mut [TreeRecord])
 }
 
 /// Zeroes the records from an index on.
+// By index: the first so many records of a lent list are in use.
 fn clear_from(tree: &mut [TreeRecord], from: usize)
     requires { from ≤ length tree.old }
     ensures { tree.new ≡ take from tree.old ++ replicate (length tree.old - from) zero_node }

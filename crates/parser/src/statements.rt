@@ -101,6 +101,7 @@ fn action(descent: &mut Descent<'_>) -> Result<usize, Stop>
 }
 
 /// The arms that ELSIF begins, added to the list of those before.
+// A loop for each list: one over the item and its test would need a clause over every grammar of an item.
 #[cycle(statements)]
 fn more_arms(descent: &mut Descent<'_>, room: u8, before: usize) -> Result<usize, Stop>
     requires { before ≡ root descent.old }

@@ -47,7 +47,7 @@ fn answer(rt: &HostRuntime, line: &str, source: &[u8]) -> io::Result<()> {
 }
 
 // What lists of so many records hold at their ends: the places of the first and the last of each.
-// In each of the two programs: what they have in common is a line of the loop.
+// Also in the program that tries the lexer, which fills one list: in common is the loop over two records.
 fn held_after(
     rt: &HostRuntime,
     symbol_count: usize,

@@ -40,6 +40,7 @@ pub fn answer_lines<L: Copy, A: fmt::Display + Drop, F: FnMut(L) -> A>(
     requires { F.IsAlwaysCallable answer }
     ensures { IfOk result (λ _. (last : F) × FoldsTo (Answered F.step) answer script.now last) }
 {
+    // By what is left of the script: behind a `for` nothing is known of the calls that are still to come.
     let mut rest = script;
     while let Some((line, behind)) = rest.split_first() {
         match *line {

@@ -45,6 +45,7 @@ fn go_on(m: &mut Memory)
 }
 
 // Executes an instruction as far as the memory goes.
+// Its index lies within the list, as that of `go_on`.
 fn execute(m: &mut Memory, i: Instruction) -> Act
     requires { m.old.pc + 1 < 2 ^ 64 }
     ensures { Tells (effect i) m.old result m.new }

@@ -6,7 +6,7 @@ use std::io;
 use std::io::Read;
 use std::str::from_utf8;
 
-// The text of the symbol at a place.
+// The text of the symbol at a place: a record keeps no text.
 fn text_at(source: &[u8], place: usize) -> &str {
     next_symbol(source, place)
         .ok()

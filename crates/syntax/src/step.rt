@@ -139,8 +139,8 @@ impl Descent<'_> {
         }
     }
 
-    // At a symbol, what the functions of a place answer: no caller outside has the source.
     /// How long the word is that the symbol stands for.
+    // By the function of a source and a place: who holds a descent has no source to give it.
     pub fn word_length(&self, symbol: SymbolRecord) -> usize
         ensures { result ≡ word_length self.now.source.now symbol.place }
     {
