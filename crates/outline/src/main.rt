@@ -50,7 +50,6 @@ fn is_placeless(kind: NodeKind) -> bool {
             | NodeKind::Terms
             | NodeKind::Limits
             | NodeKind::Variable
-            | NodeKind::Bounds
             | NodeKind::Parameters
             | NodeKind::Heading
             | NodeKind::Block

@@ -127,11 +127,11 @@ fn array(descent: &mut Descent<'_>) -> Result<usize, Stop>
     ensures { (d e : ℕ) → Goes d e array_type (λ s rs v. Lays 0 (array_of s rs v)) descent.old result descent.new }
 {
     let array = descent.expect(Tag::Array)?;
-    descent.expect(Tag::OpenSquare)?;
+    let opening = descent.expect(Tag::OpenSquare)?;
     let first = descent.elem()?;
     descent.expect(Tag::Range)?;
     let last = descent.elem()?;
-    let bounds = descent.push(bare(NodeKind::Bounds, first, last));
+    let bounds = descent.push(placed(NodeKind::Bounds, opening.place, 0, first, last));
     descent.expect(Tag::CloseSquare)?;
     descent.expect(Tag::Of)?;
     let kind = descent.name()?;

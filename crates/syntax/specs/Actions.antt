@@ -125,7 +125,7 @@ module _ (source : List ℕ) (symbols : List SymbolRecord) where
   act Set (i, (rs, j)) = unary (at kind.Set i) (separated rs)
   act Range (a, b) = range a b
   act «Type» (inl i) = name i
-  act «Type» (inr (i, (o, (x, (d, (y, (c, (f, j)))))))) = binary (at kind.Array i) (binary (bare kind.Bounds) x y) (name j)
+  act «Type» (inr (i, (o, (x, (d, (y, (c, (f, j)))))))) = binary (at kind.Array i) (binary (at kind.Bounds o) x y) (name j)
   act Stats (s, ss) = chain (λ x. bare kind.Sequence) (λ x. x.1) s ss
   act Stat (inl (inl a)) = a
   act Stat (inl (inr (inl i))) = leaf (at kind.Exit i)

@@ -111,7 +111,7 @@ declaring = codes (tag.Const ∷ tag.Var ∷ tag.Procedure ∷ [])
 -- the trees of an array type, a declared constant and all behind CONST, declared variables and all behind VAR, and of a closing name behind a body
 module _ (source : List ℕ) (symbols : List SymbolRecord) where
   abbrev pub array_of : (ℕ × (ℕ × (Syntax × (ℕ × (Syntax × (ℕ × (ℕ × ℕ))))))) → Syntax
-  array_of v = binary (at source symbols kind.Array v.0) (binary (bare kind.Bounds) v.1.1.0 v.1.1.1.1.0) (name source symbols v.1.1.1.1.1.1.1)
+  array_of v = binary (at source symbols kind.Array v.0) (binary (at source symbols kind.Bounds v.1.0) v.1.1.0 v.1.1.1.1.0) (name source symbols v.1.1.1.1.1.1.1)
 
   abbrev pub constant_of : (ℕ × (ℕ × (Syntax × ℕ))) → Syntax
   constant_of c = unary (named source symbols kind.Constant c.0) c.1.1.0

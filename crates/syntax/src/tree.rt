@@ -73,7 +73,7 @@ pub enum NodeKind {
     Variable,
     /// An array type at its ARRAY: its bounds, and the elements' type.
     Array,
-    /// The bounds of an array: the first and the last.
+    /// The bounds of an array at their `[`: the first and the last.
     Bounds,
     /// A group of parameters: the list of their names, and the type.
     Parameters,
