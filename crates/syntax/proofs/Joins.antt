@@ -37,10 +37,10 @@ hd_in (x ∷ w) zero c h = (omega arith, h)
 hd_in (x ∷ w) (suc i) c h = let k = hd_in w i c h in (let j = k.0 in omega arith, k.1)
 
 pub keeps_both : {p p₁ p₂ : Descent} → Keeps p p₁ → Keeps p₁ p₂ → Keeps p p₂
-keeps_both a b = record { source = b.source ∙ a.source; symbols = b.symbols ∙ a.symbols; lent = b.lent ∙ a.lent }
+keeps_both a b = record { source = b.source ∙ a.source; symbols = b.symbols ∙ a.symbols; lent = b.lent ∙ a.lent; long = b.long ∙ a.long }
 
 pub keeps_same : {p p' : Descent} → p' ≡ p → Keeps p p'
-keeps_same {p} e = subst (λ x. Keeps p x) (sym e) (record { source = refl; symbols = refl; lent = refl })
+keeps_same {p} e = subst (λ x. Keeps p x) (sym e) (record { source = refl; symbols = refl; lent = refl; long = refl })
 
 -- both parts of a pair, one behind the other
 pub record Then (g h : G NT) (P : Wrote g) (Q : Wrote h) (c₁ : Cursor) (t₁ : List TreeRecord) (v : Val Syntax g × Val Syntax h) (c : Cursor) (t : List TreeRecord) (c₂ : Cursor) (t₂ : List TreeRecord) : Type 0 where

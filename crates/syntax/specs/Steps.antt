@@ -32,11 +32,12 @@ abbrev pub NextIs : ℕ → Descent → Bool → Type 0
 NextIs k p true = On p (k ∷ [])
 NextIs k p false = Off p (k ∷ [])
 
--- the symbols are the same, and the lent tree is the same reference
+-- the symbols are the same, and the lent tree is the same reference and as long
 pub record Keeps (p p' : Descent) : Type 0 where
   pub source : p'.source.now ≡ p.source.now
   pub symbols : p'.symbols.now ≡ p.symbols.now
   pub lent : p'.tree.ghost_name ≡ p.tree.ghost_name
+  pub long : length p'.tree.now ≡ length p.tree.now
 
 -- the next symbol was passed, if there is one, and nothing was written
 pub record Advances (r : SymbolRecord) (p p' : Descent) : Type 0 where

@@ -12,7 +12,7 @@ pushed : (r : TreeRecord) (p q : Descent) (u : ℕ) → q.source ≡ p.source �
     Pushed r (u - 1) p (record { source = q.source; symbols = q.symbols; tree = q.tree; here = record { at = q.here.at; used = u } })
 pushed r p q u s rs g h m l w =
     record {
-      keeps = record { source = ap (λ x. x.now) s; symbols = ap (λ x. x.now) rs; lent = g };
+      keeps = record { source = ap (λ x. x.now) s; symbols = ap (λ x. x.now) rs; lent = g; long = l };
       added = added r p.here (record { at = q.here.at; used = u }) p.tree.now q.tree.now (ap (λ x. x.at) h) (m ∙ ap (λ x. min (x.used + 1) 18446744073709551615) h) l w;
       is = refl;
     }
