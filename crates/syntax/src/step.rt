@@ -44,16 +44,38 @@ impl<'a> Descent<'a> {
         ensures lent { (result.tree.now ≡ tree.old) × (result.tree.ghost_name ≡ tree.entry.ghost_name) }
         ensures here { (result.here.at ≡ 0) × (result.here.used ≡ 0) }
     {
+        Descent::at(source, symbols, tree, Cursor { at: 0, used: 0 })
+    }
+
+    /// A descent from a symbol on, with so many records in use.
+    pub fn at(
+        source: &'a [u8],
+        symbols: &'a [SymbolRecord],
+        tree: &'a mut [TreeRecord],
+        from: Cursor,
+    ) -> Descent<'a>
+        ensures read { (result.source.now ≡ source.now) × (result.symbols.now ≡ symbols.now) }
+        ensures lent { (result.tree.now ≡ tree.old) × (result.tree.ghost_name ≡ tree.entry.ghost_name) }
+        ensures here { result.here ≡ from }
+    {
         Descent {
             source,
             symbols,
             tree,
-            here: Cursor { at: 0, used: 0 },
+            here: from,
         }
     }
 }
 
 impl Descent<'_> {
+    /// How far it has come.
+    pub fn here(&self) -> Cursor
+        ensures { result ≡ self.now.here }
+    {
+        let Descent { here, .. } = self;
+        *here
+    }
+
     /// The tag of the next symbol, that of the end behind the last.
     pub fn next(&self) -> Tag
         ensures is { result ≡ tag_at self.now.symbols.now self.now.here.at }
