@@ -157,7 +157,7 @@ fn constants(descent: &mut Descent<'_>) -> Result<usize, Stop>
     let word = descent.expect(Tag::Const)?;
     let mut all = descent.push(placed(NodeKind::Constants, word.place, 0, 0, 0));
     while descent.is_next(Tag::Identifier) {
-        let name = descent.advance();
+        let name = descent.pass();
         let length = descent.word_length(name);
         descent.expect(Tag::Equal)?;
         let value = constant(descent)?;

@@ -38,7 +38,7 @@ fn stat(descent: &mut Descent<'_>, room: u8) -> Result<usize, Stop>
     match descent.next() {
         Tag::Identifier => action(descent),
         Tag::Exit => {
-            let word = descent.advance();
+            let word = descent.pass();
             Ok(descent.push(placed(NodeKind::Exit, word.place, 0, 0, 0)))
         }
         Tag::If => if_statement(descent, room),
@@ -109,7 +109,7 @@ fn more_arms(descent: &mut Descent<'_>, room: u8, before: usize) -> Result<usize
 {
     let mut all = before;
     while descent.is_next(Tag::Elsif) {
-        let word = descent.advance();
+        let word = descent.pass();
         let condition = descent.expr(LIMIT)?;
         descent.expect(Tag::Then)?;
         let body = stats(descent, room)?;

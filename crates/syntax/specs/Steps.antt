@@ -48,6 +48,11 @@ pub record Advances (r : SymbolRecord) (p p' : Descent) : Type 0 where
   pub used : p'.here.used ≡ p.here.used
   pub same : p'.tree.now ≡ p.tree.now
 
+-- so it was; or none is left, and all is as it was
+abbrev pub AdvancesOrStops : Descent → Result SymbolRecord Stop → Descent → Type 0
+AdvancesOrStops p (Ok r) p' = (p.here.at < length p.symbols.now) × Advances r p p'
+AdvancesOrStops p (Err s) p' = (length p.symbols.now ≤ p.here.at) × (p' ≡ p) × (s ≡ Impossible p.here.at)
+
 -- it was passed if its code is k
 abbrev pub Accepts : ℕ → Descent → Bool → Descent → Type 0
 Accepts k p true p' = On p (k ∷ []) × Advances (symbol_at p.symbols.now p.here.at) p p'

@@ -45,7 +45,7 @@ impl Descent<'_> {
     {
         match self.next() {
             Tag::Minus => {
-                let sign = self.advance();
+                let sign = self.pass();
                 let number = self.expect(Tag::Number)?;
                 let value = self.number_at(number);
                 Ok(self.push(placed(NodeKind::Negative, sign.place, value, 0, 0)))

@@ -87,7 +87,7 @@ impl Descent<'_> {
         if !is_relation(self.next()) {
             return Ok(left);
         }
-        let operator = self.advance();
+        let operator = self.pass();
         let right = self.sum(room)?;
         Ok(self.push(binary(operator, left, right)))
     }
@@ -100,7 +100,7 @@ impl Descent<'_> {
     {
         let mut all = self.signed_term(room)?;
         while is_addition(self.next()) {
-            let operator = self.advance();
+            let operator = self.pass();
             let right = self.term(room)?;
             all = self.push(binary(operator, all, right));
         }
@@ -115,7 +115,7 @@ impl Descent<'_> {
         if !is_sign(self.next()) {
             return self.term(room);
         }
-        let sign = self.advance();
+        let sign = self.pass();
         let operand = self.term(room)?;
         Ok(self.push(node(NodeKind::Unary, sign.tag, sign.place, 0, operand, 0)))
     }
@@ -128,7 +128,7 @@ impl Descent<'_> {
     {
         let mut all = self.factor(room)?;
         while is_multiplication(self.next()) {
-            let operator = self.advance();
+            let operator = self.pass();
             let right = self.factor(room)?;
             all = self.push(binary(operator, all, right));
         }
@@ -144,7 +144,7 @@ impl Descent<'_> {
             Tag::Number => self.numeral(),
             Tag::OpenCurly => self.set(),
             Tag::Identifier => {
-                let name = self.advance();
+                let name = self.pass();
                 self.selection(room, name)
             }
             Tag::OpenRound => {

@@ -2,7 +2,7 @@ ghost use Rattle.std.specs.Prelude.{◌≡◌, slice_index};
 ghost use Rattle.syntax.specs.declared.step.Stop.TheVariants.{Impossible};
 ghost use Rattle.grammar.specs.Codes.{code};
 ghost use Rattle.syntax.specs.Symbols.{tag_codes, tag_at, word_length, number_at};
-ghost use Rattle.syntax.specs.Steps.{NextIs, Advances, Accepts, Expects, Opens, Finishes, Pushed};
+ghost use Rattle.syntax.specs.Steps.{NextIs, Advances, AdvancesOrStops, Accepts, Expects, Opens, Finishes, Pushed};
 
 use crate::tree::TreeRecord;
 use crate::words;
@@ -97,17 +97,20 @@ impl Descent<'_> {
         }
     }
 
+    /// Passes over the next symbol and answers it, or refuses where none is left.
+    pub fn advance(&mut self) -> Result<SymbolRecord, Stop>
+        ensures { AdvancesOrStops self.old result self.new }
+    {
+        let symbol = self.symbols.get(self.here.at).ok_or(self.impossible())?;
+        self.here.at += 1;
+        Ok(*symbol)
+    }
+
     /// Passes over the next symbol, if there is one, and answers it.
-    pub fn advance(&mut self) -> SymbolRecord
+    pub fn pass(&mut self) -> SymbolRecord
         ensures { Advances result self.old self.new }
     {
-        match self.symbols.get(self.here.at) {
-            Some(symbol) => {
-                self.here.at += 1;
-                *symbol
-            }
-            None => SymbolRecord::ZERO,
-        }
+        self.advance().unwrap_or(SymbolRecord::ZERO)
     }
 
     /// Passes over the next symbol if it has the tag.
@@ -116,7 +119,7 @@ impl Descent<'_> {
     {
         let found = self.is_next(tag);
         if found {
-            self.advance();
+            self.pass();
         }
         found
     }
@@ -126,7 +129,7 @@ impl Descent<'_> {
         ensures { Expects (code tag) self.old result self.new }
     {
         if self.is_next(tag) {
-            Ok(self.advance())
+            Ok(self.pass())
         } else {
             Err(self.impossible())
         }
@@ -147,7 +150,7 @@ impl Descent<'_> {
             return Err(self.impossible());
         }
         let inside = room.checked_sub(1).ok_or(Stop::TooDeep(self.here.at))?;
-        Ok((self.advance(), inside))
+        Ok((self.pass(), inside))
     }
 
     /// How far it has come, if no symbol is left.

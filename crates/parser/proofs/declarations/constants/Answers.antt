@@ -20,22 +20,22 @@ loop-descent-init c =
 pub returns-in_err-expect : goal.returns-in_err-expect
 returns-in_err-expect c d e =
     let h = c.loop-descent-test.ensures in
-    goes_out c.from_residual-in_err-expect.ensures.1 ((c.loop-descent.invariant.leads d e).off _ _ (fails_cons h (fails_first (fails_then (did_on c.advance-name.ensures h) (fails_first (fails_expect c.in_err-expect.ensures))))))
+    goes_out c.from_residual-in_err-expect.ensures.1 ((c.loop-descent.invariant.leads d e).off _ _ (fails_cons h (fails_first (fails_then (did_on c.pass-name.ensures h) (fails_first (fails_expect c.in_err-expect.ensures))))))
 
 pub returns-in_err-value : goal.returns-in_err-value
 returns-in_err-value c d e =
     let h = c.loop-descent-test.ensures in
-    goes_out c.from_residual-in_err-value.ensures.1 ((c.loop-descent.invariant.leads d e).off _ _ (fails_cons h (fails_first (fails_then (did_on c.advance-name.ensures h) (fails_then (did_expect c.in_ok-expect.ensures) (fails_first (fails (c.in_err-value.ensures d e))))))))
+    goes_out c.from_residual-in_err-value.ensures.1 ((c.loop-descent.invariant.leads d e).off _ _ (fails_cons h (fails_first (fails_then (did_on c.pass-name.ensures h) (fails_then (did_expect c.in_ok-expect.ensures) (fails_first (fails (c.in_err-value.ensures d e))))))))
 
 pub returns-in_err-expect-2 : goal.returns-in_err-expect-2
 returns-in_err-expect-2 c d e =
     let h = c.loop-descent-test.ensures in
-    goes_out c.from_residual-in_err-expect-2.ensures.1 ((c.loop-descent.invariant.leads d e).off _ _ (fails_cons h (fails_first (fails_then (did_on c.advance-name.ensures h) (fails_then (did_expect c.in_ok-expect.ensures) (fails_then (did (c.in_ok-value.ensures d e)) (fails_expect c.in_err-expect-2.ensures)))))))
+    goes_out c.from_residual-in_err-expect-2.ensures.1 ((c.loop-descent.invariant.leads d e).off _ _ (fails_cons h (fails_first (fails_then (did_on c.pass-name.ensures h) (fails_then (did_expect c.in_ok-expect.ensures) (fails_then (did (c.in_ok-value.ensures d e)) (fails_expect c.in_err-expect-2.ensures)))))))
 
 pub loop-descent-smaller : goal.loop-descent-smaller
 loop-descent-smaller c =
     let h = c.loop-descent-test.ensures in
-    did_shrinks tt h (did_push (did_push (did_seq (did_on {d = 0} {e = 0} c.advance-name.ensures h) (did_seq (did_expect c.in_ok-expect.ensures) (did_seq (did (c.in_ok-value.ensures 0 0)) (did_expect c.in_ok-expect-2.ensures)))) c.push-item.ensures) c.push-all-in-loop-descent.ensures)
+    did_shrinks tt h (did_push (did_push (did_seq (did_on {d = 0} {e = 0} c.pass-name.ensures h) (did_seq (did_expect c.in_ok-expect.ensures) (did_seq (did (c.in_ok-value.ensures 0 0)) (did_expect c.in_ok-expect-2.ensures)))) c.push-item.ensures) c.push-all-in-loop-descent.ensures)
 
 pub loop-descent-preserved : goal.loop-descent-preserved
 loop-descent-preserved c =
@@ -49,9 +49,9 @@ loop-descent-preserved c =
           let z = b.two in
           extends_item a.one.passed
           (unary_lays {m = 1} {n = 1} b.one.passed z.one z.two.passed x.one.two
-          (entry_same c.placed-in-loop-descent.ensures refl (place_is a.one) (length_is c.advance-name.ensures.keeps a.one c.word_length-length.ensures) (rooted (c.in_ok-value.ensures d e)) refl) 0 (omega arith)) x.two
+          (entry_same c.placed-in-loop-descent.ensures refl (place_is a.one) (length_is c.pass-name.ensures.keeps a.one c.word_length-length.ensures) (rooted (c.in_ok-value.ensures d e)) refl) 0 (omega arith)) x.two
           (entry_same c.bare.ensures refl refl refl i.all c.push-item.ensures.is) 0 (omega arith))
-          (did_push (did_push (did_seq (did_on c.advance-name.ensures h) (did_seq (did_expect c.in_ok-expect.ensures) (did_seq (did (c.in_ok-value.ensures d e)) (did_expect c.in_ok-expect-2.ensures)))) c.push-item.ensures) c.push-all-in-loop-descent.ensures));
+          (did_push (did_push (did_seq (did_on c.pass-name.ensures h) (did_seq (did_expect c.in_ok-expect.ensures) (did_seq (did (c.in_ok-value.ensures d e)) (did_expect c.in_ok-expect-2.ensures)))) c.push-item.ensures) c.push-all-in-loop-descent.ensures));
       all = c.push-all-in-loop-descent.ensures.is;
     }
 

@@ -54,7 +54,7 @@ stat-returns-in-Exit t c =
     let k = c.in-Exit.ensures.coded in
     goes_ok c.push.ensures.is (did_node (did_left (on_by 13 k tt tt) (did_right (off_by 13 k tt tt) (did_left (on_by 13 k tt tt) (did_map
     (λ v g x. lays_lift 1 (leaf_lays {n = 0} _ x.one.passed (entry_same c.placed.ensures refl (place_is x.one) refl refl refl) x.two))
-    (did_push (did_on c.advance-word.ensures (on_by 13 k tt tt)) c.push.ensures))))))
+    (did_push (did_on c.pass-word.ensures (on_by 13 k tt tt)) c.push.ensures))))))
 
 pub stat-returns-in-If : goal.stat-returns-in-If
 stat-returns-in-If t c =
@@ -113,24 +113,24 @@ pub more_arms-returns-in_err-condition : goal.more_arms-returns-in_err-condition
 more_arms-returns-in_err-condition t c =
     let h = c.loop-descent-test.ensures in
     let i = c.loop-descent.invariant in
-    goes_out c.from_residual.ensures.1 (i.leads.off _ _ (fails_cons h (fails_first (fails_then (did_on c.advance-word.ensures h) (fails_first (fails (c.in_err-condition.ensures _)))))))
+    goes_out c.from_residual.ensures.1 (i.leads.off _ _ (fails_cons h (fails_first (fails_then (did_on c.pass-word.ensures h) (fails_first (fails (c.in_err-condition.ensures _)))))))
 
 pub more_arms-returns-in_err-expect : goal.more_arms-returns-in_err-expect
 more_arms-returns-in_err-expect t c =
     let h = c.loop-descent-test.ensures in
     let i = c.loop-descent.invariant in
-    goes_out c.from_residual-in_err-expect.ensures.1 (i.leads.off _ _ (fails_cons h (fails_first (fails_then (did_on c.advance-word.ensures h) (fails_then (did (c.in_ok-condition.ensures _)) (fails_first (fails_expect c.in_err-expect.ensures)))))))
+    goes_out c.from_residual-in_err-expect.ensures.1 (i.leads.off _ _ (fails_cons h (fails_first (fails_then (did_on c.pass-word.ensures h) (fails_then (did (c.in_ok-condition.ensures _)) (fails_first (fails_expect c.in_err-expect.ensures)))))))
 
 pub more_arms-returns-in_err-body : goal.more_arms-returns-in_err-body
 more_arms-returns-in_err-body t c =
     let h = c.loop-descent-test.ensures in
     let i = c.loop-descent.invariant in
-    goes_out c.from_residual-in_err-body.ensures.1 (i.leads.off _ _ (fails_cons h (fails_first (fails_then (did_on c.advance-word.ensures h) (fails_then (did (c.in_ok-condition.ensures _)) (fails_then (did_expect c.in_ok-expect.ensures) (fails c.in_err-body.ensures)))))))
+    goes_out c.from_residual-in_err-body.ensures.1 (i.leads.off _ _ (fails_cons h (fails_first (fails_then (did_on c.pass-word.ensures h) (fails_then (did (c.in_ok-condition.ensures _)) (fails_then (did_expect c.in_ok-expect.ensures) (fails c.in_err-body.ensures)))))))
 
 pub more_arms-stats-requires : goal.more_arms-stats-requires
 more_arms-stats-requires t c =
     let i = c.loop-descent.invariant.left in
-    let h₁ = on_falls c.advance-word.ensures c.loop-descent-test.ensures in
+    let h₁ = on_falls c.pass-word.ensures c.loop-descent-test.ensures in
     let h₂ = did_keeps (did (c.in_ok-condition.ensures 0)) in
     let h₃ = did_keeps (did_expect {d = 0} {e = 0} c.in_ok-expect.ensures) in
     (omega arith, tt)
@@ -138,13 +138,13 @@ more_arms-stats-requires t c =
 pub more_arms-loop-descent-smaller : goal.more_arms-loop-descent-smaller
 more_arms-loop-descent-smaller t c =
     let h = c.loop-descent-test.ensures in
-    did_shrinks tt h (did_push (did_seq (did_on c.advance-word.ensures h) (did_seq (did (c.in_ok-condition.ensures _)) (did_seq (did_expect c.in_ok-expect.ensures) (did_push (did c.in_ok-body.ensures) c.push-item.ensures)))) c.push-all.ensures)
+    did_shrinks tt h (did_push (did_seq (did_on c.pass-word.ensures h) (did_seq (did (c.in_ok-condition.ensures _)) (did_seq (did_expect c.in_ok-expect.ensures) (did_push (did c.in_ok-body.ensures) c.push-item.ensures)))) c.push-all.ensures)
 
 pub more_arms-loop-descent-preserved : goal.more_arms-loop-descent-preserved
 more_arms-loop-descent-preserved t c =
     let h = c.loop-descent-test.ensures in
     let i = c.loop-descent.invariant in
-    let a = did_push (did_seq (did_on c.advance-word.ensures h) (did_seq (did (c.in_ok-condition.ensures _)) (did_seq (did_expect c.in_ok-expect.ensures) (did_push (did c.in_ok-body.ensures) c.push-item.ensures)))) c.push-all.ensures in
+    let a = did_push (did_seq (did_on c.pass-word.ensures h) (did_seq (did (c.in_ok-condition.ensures _)) (did_seq (did_expect c.in_ok-expect.ensures) (did_push (did c.in_ok-body.ensures) c.push-item.ensures)))) c.push-all.ensures in
     record {
       leads = leads_item i.leads h (did_map
           (λ v g x.

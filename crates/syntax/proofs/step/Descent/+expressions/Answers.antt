@@ -34,14 +34,14 @@ expr-returns-then-not-is_relation t c e =
 pub expr-sum-requires-2 : goal.expr-sum-requires-2
 expr-sum-requires-2 t c =
     let o : On c.sum.new.self relations = on_class c.next.ensures.coded c.is_relation.ensures c.if-not-is_relation.false tt in
-    let h = on_falls c.advance-operator.ensures o in
+    let h = on_falls c.pass-operator.ensures o in
     let i = did_keeps (did (c.in_ok-left.ensures 0)) in
     (omega arith, tt)
 
 pub expr-returns-in_err-right : goal.expr-returns-in_err-right
 expr-returns-in_err-right t c e =
     let o : On c.sum.new.self relations = on_class c.next.ensures.coded c.is_relation.ensures c.if-not-is_relation.false tt in
-    goes_out c.from_residual-in_err-right.ensures.1 (fails_node (fails_then (did (c.in_ok-left.ensures e)) (fails_left o (fails_then (did_on c.advance-operator.ensures o) (fails (c.in_err-right.ensures e))))))
+    goes_out c.from_residual-in_err-right.ensures.1 (fails_node (fails_then (did (c.in_ok-left.ensures e)) (fails_left o (fails_then (did_on c.pass-operator.ensures o) (fails (c.in_err-right.ensures e))))))
 
 pub expr-returns : goal.expr-returns
 expr-returns t c e =
@@ -56,7 +56,7 @@ expr-returns t c e =
     let z = y.two.wrote in
     lays_as (ap (λ q. act s rs Expr (v.0, q)) y.two.is)
     (binary_lays y.one z.one.passed z.two x.two (entry_same c.binary.ensures (tag_is z.one) (place_is z.one) refl (rooted a) (rooted b)) 0 (omega arith)))
-    (did_push (did_seq (did a) (did_inl o (did_seq (did_on c.advance-operator.ensures o) (did b)))) c.push.ensures)))
+    (did_push (did_seq (did a) (did_inl o (did_seq (did_on c.pass-operator.ensures o) (did b)))) c.push.ensures)))
 
 pub sum-returns-in_err-all : goal.sum-returns-in_err-all
 sum-returns-in_err-all t c e = goes_out c.from_residual.ensures.1 (fails_node (fails_turn (fails_first (fails (c.in_err-all.ensures e)))))
@@ -78,12 +78,12 @@ pub sum-returns-in_err-right : goal.sum-returns-in_err-right
 sum-returns-in_err-right t c e =
     let o : On c.loop-self.self additions = on_class c.next.ensures.coded c.is_addition.ensures c.loop-self-test.true tt in
     let i = c.loop-self.invariant.leads e in
-    goes_out c.from_residual-in_err-right.ensures.1 (i.off _ _ (fails_cons o (fails_first (fails_then (did_on c.advance-operator.ensures o) (fails (c.in_err-right.ensures e))))))
+    goes_out c.from_residual-in_err-right.ensures.1 (i.off _ _ (fails_cons o (fails_first (fails_then (did_on c.pass-operator.ensures o) (fails (c.in_err-right.ensures e))))))
 
 pub sum-loop-self-smaller : goal.sum-loop-self-smaller
 sum-loop-self-smaller t c =
     let o : On c.loop-self.self additions = on_class c.next.ensures.coded c.is_addition.ensures c.loop-self-test.true tt in
-    did_shrinks tt o (did_push (did_seq (did_on {e = 0} c.advance-operator.ensures o) (did (c.in_ok-right.ensures 0))) c.push-all.ensures)
+    did_shrinks tt o (did_push (did_seq (did_on {e = 0} c.pass-operator.ensures o) (did (c.in_ok-right.ensures 0))) c.push-all.ensures)
 
 pub sum-loop-self-preserved : goal.sum-loop-self-preserved
 sum-loop-self-preserved t c =
@@ -94,11 +94,11 @@ sum-loop-self-preserved t c =
           let a = c.in_ok-right.ensures e in
           leads_item (i.leads e) o (did_map
           (λ v g x. extends_item x.one.one.passed x.one.two x.two (entry_same c.binary.ensures (tag_is x.one.one) (place_is x.one.one) refl i.all (rooted a)) 0 (omega arith))
-          (did_push (did_seq (did_on c.advance-operator.ensures o) (did a)) c.push-all.ensures));
+          (did_push (did_seq (did_on c.pass-operator.ensures o) (did a)) c.push-all.ensures));
       all = c.push-all.ensures.is;
       left =
           let h = i.left in
-          let j = did_keeps (did_push (did_seq (did_on {e = 0} c.advance-operator.ensures o) (did (c.in_ok-right.ensures 0))) c.push-all.ensures) in
+          let j = did_keeps (did_push (did_seq (did_on {e = 0} c.pass-operator.ensures o) (did (c.in_ok-right.ensures 0))) c.push-all.ensures) in
           omega arith;
     }
 
@@ -119,7 +119,7 @@ signed_term-returns-then-not-is_sign t c e =
 pub signed_term-returns-in_err-operand : goal.signed_term-returns-in_err-operand
 signed_term-returns-in_err-operand t c e =
     let o : On c.args.self.now signs = on_class c.next.ensures.coded c.is_sign.ensures c.if-not-is_sign.false tt in
-    goes_out c.from_residual.ensures.1 (fails_then (did_inl o (did_on c.advance-sign.ensures o)) (fails (c.in_err-operand.ensures e)))
+    goes_out c.from_residual.ensures.1 (fails_then (did_inl o (did_on c.pass-sign.ensures o)) (fails (c.in_err-operand.ensures e)))
 
 pub signed_term-returns : goal.signed_term-returns
 signed_term-returns t c e =
@@ -132,7 +132,7 @@ signed_term-returns t c e =
     let y = x.one in
     lays_as (ap (λ z. signed s rs z v.1) y.one.is)
     (unary_lays {n = 0} y.one.wrote.passed y.two passed_none x.two (entry_same c.node.ensures (tag_is y.one.wrote) (place_is y.one.wrote) refl (rooted a) refl) 0 (omega arith)))
-    (did_push (did_seq (did_inl o (did_on c.advance-sign.ensures o)) (did a)) c.push.ensures))
+    (did_push (did_seq (did_inl o (did_on c.pass-sign.ensures o)) (did a)) c.push.ensures))
 
 pub term-returns-in_err-all : goal.term-returns-in_err-all
 term-returns-in_err-all t c e = goes_out c.from_residual.ensures.1 (fails_node (fails_first (fails (c.in_err-all.ensures e))))
@@ -154,12 +154,12 @@ pub term-returns-in_err-right : goal.term-returns-in_err-right
 term-returns-in_err-right t c e =
     let o : On c.loop-self.self multiplications = on_class c.next.ensures.coded c.is_multiplication.ensures c.loop-self-test.true tt in
     let i = c.loop-self.invariant.leads e in
-    goes_out c.from_residual-in_err-right.ensures.1 (i.off _ _ (fails_cons o (fails_first (fails_then (did_on c.advance-operator.ensures o) (fails (c.in_err-right.ensures e))))))
+    goes_out c.from_residual-in_err-right.ensures.1 (i.off _ _ (fails_cons o (fails_first (fails_then (did_on c.pass-operator.ensures o) (fails (c.in_err-right.ensures e))))))
 
 pub term-loop-self-smaller : goal.term-loop-self-smaller
 term-loop-self-smaller t c =
     let o : On c.loop-self.self multiplications = on_class c.next.ensures.coded c.is_multiplication.ensures c.loop-self-test.true tt in
-    did_shrinks tt o (did_push (did_seq (did_on {e = 0} c.advance-operator.ensures o) (did (c.in_ok-right.ensures 0))) c.push-all.ensures)
+    did_shrinks tt o (did_push (did_seq (did_on {e = 0} c.pass-operator.ensures o) (did (c.in_ok-right.ensures 0))) c.push-all.ensures)
 
 pub term-loop-self-preserved : goal.term-loop-self-preserved
 term-loop-self-preserved t c =
@@ -170,11 +170,11 @@ term-loop-self-preserved t c =
           let a = c.in_ok-right.ensures e in
           leads_item (i.leads e) o (did_map
           (λ v g x. extends_item x.one.one.passed x.one.two x.two (entry_same c.binary.ensures (tag_is x.one.one) (place_is x.one.one) refl i.all (rooted a)) 0 (omega arith))
-          (did_push (did_seq (did_on c.advance-operator.ensures o) (did a)) c.push-all.ensures));
+          (did_push (did_seq (did_on c.pass-operator.ensures o) (did a)) c.push-all.ensures));
       all = c.push-all.ensures.is;
       left =
           let h = i.left in
-          let j = did_keeps (did_push (did_seq (did_on {e = 0} c.advance-operator.ensures o) (did (c.in_ok-right.ensures 0))) c.push-all.ensures) in
+          let j = did_keeps (did_push (did_seq (did_on {e = 0} c.pass-operator.ensures o) (did (c.in_ok-right.ensures 0))) c.push-all.ensures) in
           omega arith;
     }
 
@@ -202,8 +202,8 @@ factor-returns-in-Identifier t c e =
     goes_as
     (λ a. did_node (did_right (off_by 41 k tt tt) (did_right (off_by 41 k tt tt) (did_left (on_by 41 k tt tt) (did_map
     (λ v g x. lays_as (sym (ap (λ r. selected r.place (word_length s r.place) v.1) x.one.symbol ∙ selected_is s rs v.0 v.1)) (lays_spend x.one.passed x.two))
-    (did_seq (did_on c.advance-name.ensures o) a))))))
-    (λ z a. fails_node (fails_right (off_by 41 k tt tt) (fails_right (off_by 41 k tt tt) (fails_left (on_by 41 k tt tt) (fails_then (did_on c.advance-name.ensures o) a))))) (c.selection.ensures e)
+    (did_seq (did_on c.pass-name.ensures o) a))))))
+    (λ z a. fails_node (fails_right (off_by 41 k tt tt) (fails_right (off_by 41 k tt tt) (fails_left (on_by 41 k tt tt) (fails_then (did_on c.pass-name.ensures o) a))))) (c.selection.ensures e)
 
 pub factor-returns-in_err-opening-in-OpenRound : goal.factor-returns-in_err-opening-in-OpenRound
 factor-returns-in_err-opening-in-OpenRound t c e =

@@ -11,7 +11,7 @@ pub returns-in_err-number-in-Minus : goal.returns-in_err-number-in-Minus
 returns-in_err-number-in-Minus c d e =
     let k = c.in-Minus.ensures.coded in
     let o : On c.args.self.now (44 ∷ []) = on_by 44 k tt tt in
-    goes_out c.from_residual.ensures.1 (fails_node (fails_left (on_by 44 k tt tt) (fails_then (did_inl o (did_on c.advance-sign.ensures o)) (fails_expect c.in_err-number-in-Minus.ensures))))
+    goes_out c.from_residual.ensures.1 (fails_node (fails_left (on_by 44 k tt tt) (fails_then (did_inl o (did_on c.pass-sign.ensures o)) (fails_expect c.in_err-number-in-Minus.ensures))))
 
 pub returns-in_ok-number-in-Minus : goal.returns-in_ok-number-in-Minus
 returns-in_ok-number-in-Minus c d e =
@@ -24,8 +24,8 @@ returns-in_ok-number-in-Minus c d e =
     let a = x.one.one in
     lays_as (ap (λ y. act s rs Elem (inl (y, v.1))) a.is)
     (leaf_lays {n = 1} _ (passed_both a.wrote.passed x.one.two.passed)
-    (entry_same c.placed.ensures refl (place_is a.wrote) (number_is (keeps_both c.advance-sign.ensures.keeps c.in_ok-number-in-Minus.ensures.1.keeps) x.one.two c.number_at-value.ensures) refl refl) x.two))
-    (did_push (did_seq (did_inl o (did_on c.advance-sign.ensures o)) (did_expect c.in_ok-number-in-Minus.ensures)) c.push.ensures))))
+    (entry_same c.placed.ensures refl (place_is a.wrote) (number_is (keeps_both c.pass-sign.ensures.keeps c.in_ok-number-in-Minus.ensures.1.keeps) x.one.two c.number_at-value.ensures) refl refl) x.two))
+    (did_push (did_seq (did_inl o (did_on c.pass-sign.ensures o)) (did_expect c.in_ok-number-in-Minus.ensures)) c.push.ensures))))
 
 pub returns-in-Number : goal.returns-in-Number
 returns-in-Number c d e =
