@@ -1,5 +1,6 @@
-ghost use Rattle.std.specs.Prelude.{◌≡◌};
+ghost use Rattle.std.specs.Prelude.{◌≡◌, pos};
 ghost use Rattle.console.specs.Orders.{port_command};
+ghost use Rattle.number.specs.Numbers.{Number, whole};
 
 use number::read;
 use script::command::Command;
@@ -16,11 +17,18 @@ pub enum Order {
     Peek(u16),
 }
 
+// A number from 0 to 65,535.
+fn count(word: &str) -> Option<u16>
+    ensures { Number (pos 0) (pos 65535) word.now (whole result) }
+{
+    read::<u16>(word)
+}
+
 impl Line for Order {
     fn from_words(words: &[&str]) -> Option<Order> {
         match *words {
-            ["run", budget] => Some(Order::Run(read(budget)?)),
-            ["peek", word] => Some(Order::Peek(read(word)?)),
+            ["run", budget] => Some(Order::Run(count(budget)?)),
+            ["peek", word] => Some(Order::Peek(count(word)?)),
             _ => match Command::from_words(words)? {
                 Command::Take { .. } | Command::Set { .. } => None,
                 command => Some(Order::Port(command)),

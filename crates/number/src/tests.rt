@@ -1,31 +1,11 @@
 // Each type that a script has, with the ends that it is read between.
 ghost use Rattle.std.specs.Prelude.{pos};
-ghost use Rattle.integer.specs.Ends.{integer};
 ghost use Rattle.number.specs.Numbers.{Number, whole};
 
-use crate::read;
-use ports::sample::Sample;
-
-fn sample(word: &str) -> Option<Sample>
-    ensures { Number integer.low integer.high word.now result }
-{
-    read(word)
-}
-
-fn channel(word: &str) -> Option<u8>
-    ensures { Number (pos 0) (pos 255) word.now (whole result) }
-{
-    read(word)
-}
+use crate::{channel, read, sample, size};
 
 fn count(word: &str) -> Option<u16>
     ensures { Number (pos 0) (pos 65535) word.now (whole result) }
-{
-    read(word)
-}
-
-fn size(word: &str) -> Option<u32>
-    ensures { Number (pos 0) (pos 4294967295) word.now (whole result) }
 {
     read(word)
 }

@@ -1,7 +1,6 @@
 ghost use Rattle.std.specs.Prelude.{◌≡◌};
 
 use crate::line::Line;
-use number::read;
 use ports::sample::Sample;
 
 /// What a line of a script asks.
@@ -46,30 +45,30 @@ pub enum Command {
 impl Line for Command {
     fn from_words(words: &[&str]) -> Option<Command> {
         match *words {
-            ["port", "queue", samples] => Some(Command::Queue(read(samples)?)),
+            ["port", "queue", samples] => Some(Command::Queue(number::size(samples)?)),
             ["port", "latch"] => Some(Command::Latch),
             ["trim", channel, offset] => Some(Command::Trim {
-                channel: read(channel)?,
-                offset: read(offset)?,
+                channel: number::channel(channel)?,
+                offset: number::sample(offset)?,
             }),
             ["clip", channel, low, high] => Some(Command::Clip {
-                channel: read(channel)?,
-                low: read(low)?,
-                high: read(high)?,
+                channel: number::channel(channel)?,
+                low: number::sample(low)?,
+                high: number::sample(high)?,
             }),
             ["feed", channel, value] => Some(Command::Feed {
-                channel: read(channel)?,
-                value: read(value)?,
+                channel: number::channel(channel)?,
+                value: number::sample(value)?,
             }),
             ["look", channel] => Some(Command::Look {
-                channel: read(channel)?,
+                channel: number::channel(channel)?,
             }),
             ["take", channel] => Some(Command::Take {
-                channel: read(channel)?,
+                channel: number::channel(channel)?,
             }),
             ["set", channel, value] => Some(Command::Set {
-                channel: read(channel)?,
-                value: read(value)?,
+                channel: number::channel(channel)?,
+                value: number::sample(value)?,
             }),
             _ => None,
         }
