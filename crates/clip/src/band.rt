@@ -4,6 +4,7 @@ ghost use Rattle.clip.specs.Clips.{nearest, judged};
 ghost use Rattle.ports.specs.Refusals.{numbered};
 ghost use Rattle.ports.specs.Stored.{stored};
 
+use integer::clamp;
 use ports::refusal::Refusal;
 use ports::sample::Sample;
 use std::marker::Model;
@@ -53,6 +54,6 @@ impl Band {
     pub fn nearest(self, v: Sample) -> Sample
         ensures { result ≡ nearest (stored self.low) (stored self.high) v }
     {
-        v.clamp(self.low, self.high)
+        clamp(v as i32, self.low as i32, self.high as i32) as Sample
     }
 }
