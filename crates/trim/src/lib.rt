@@ -9,7 +9,6 @@ ghost use Rattle.trim.specs.Lawful.{trimmed_lawful};
 
 use crate::offsets::Offsets;
 use integer::saturate;
-use ports::channel::channel_index;
 use ports::port::Port;
 use ports::refusal::Refusal;
 use ports::sample::Sample;
@@ -52,8 +51,9 @@ impl<P: Port> Port for Trim<P> {
     }
 
     fn take(&mut self, c: u8) -> Result<Option<Sample>, Refusal> {
-        let offset = self.offsets.each[channel_index(c)?];
-        Ok(self.lower.take(c)?.map(|z| lessened(z, offset)))
+        let got = self.lower.take(c)?;
+        let offset = self.offsets.each[c as usize];
+        Ok(got.map(|z| lessened(z, offset)))
     }
 
     fn set(&mut self, c: u8, v: Sample) -> Result<(), Refusal> {

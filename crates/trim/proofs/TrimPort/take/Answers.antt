@@ -16,7 +16,7 @@ returns-clause-answer g c =
     let os = c.args.self.now.offsets.each in
     let k = c.args.c in
     let o = get_or os k (pos 0) in
-    mapped (stored o) c.in_ok-take.field-0 c.map.result _ c.map.ensures.cases (λ x y is p. search rules) ∙ ap (lowered (stored o)) c.in_ok-take.ensures.answer ∙ trimmed_take os (g.P.Port.meaning c.args.self.now.lower) k
+    mapped (stored o) c.in_ok-got.got c.map.result _ c.map.ensures.cases (λ x y is p. search rules) ∙ ap (lowered (stored o)) c.in_ok-got.ensures.answer ∙ trimmed_take os (g.P.Port.meaning c.args.self.now.lower) k
 
 pub returns-clause-after : goal.returns-clause-after
 returns-clause-after g c =
