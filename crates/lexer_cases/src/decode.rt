@@ -52,7 +52,12 @@ pub fn decode(heap: Global, line: &[u8]) -> Result<Vec<u8>, AllocError> {
     let mut bytes = Vec::new(heap);
     let mut rest = line;
     while let Some(escape) = first_escape(rest) {
-        bytes.resize(bytes.len().saturating_add(escape.copies), escape.byte)?;
+        // Nearly every byte stands for itself, and a push takes half the time of a resize by one.
+        if escape.copies == 1 {
+            bytes.push(escape.byte)?;
+        } else {
+            bytes.resize(bytes.len().saturating_add(escape.copies), escape.byte)?;
+        }
         rest = escape.behind;
     }
     Ok(bytes)
