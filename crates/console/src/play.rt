@@ -6,7 +6,8 @@ use instructions::instruction::Instruction;
 use player::serve::answer_lines;
 use player::setup::{Use, set_up};
 use ports::port::Port;
-use script::line::read_script;
+use script::line::read_line;
+use std::alloc::{AllocError, Global};
 use std::io;
 
 // Answers orders on a board that runs a code list.
@@ -23,12 +24,23 @@ impl Use<Order> for Orders<'_> {
     }
 }
 
+// What the lines of a script ask, read where they stand: the script is text already, so none is copied.
+fn read_orders(heap: Global, text: &str) -> Result<Vec<Option<Order>>, AllocError> {
+    let mut orders = Vec::new(heap);
+    for line in text.lines() {
+        if let Some(order) = read_line(heap, line)? {
+            orders.push(order)?;
+        }
+    }
+    Ok(orders)
+}
+
 /// Loads a code list on a board and answers a script, or answers the list's first malformed line.
 pub fn play(rt: &HostRuntime, code: &str, script: &str) -> io::Result<()> {
     let code = match read_code(rt.alloc(), code)? {
         Ok(code) => code,
         Err(line) => return println!(rt; "bad line {line}"),
     };
-    let script: Vec<Option<Order>> = read_script(rt.alloc(), script.as_bytes())?;
-    set_up(rt, &script, Orders { rt, code: &code })
+    let orders = read_orders(rt.alloc(), script)?;
+    set_up(rt, &orders, Orders { rt, code: &code })
 }

@@ -1,5 +1,9 @@
+ghost use Rattle.std.specs.Prelude.{◌≡◌, ◌⊎◌, IfOk, slice_get};
+ghost use Rattle.std.specs.Char.{is_not_whitespace};
+ghost use Rattle.std.specs.Str.Iter.{NoAsciiPasses};
+
 use crate::command::Command;
-use std::alloc::Global;
+use std::alloc::{AllocError, Global};
 use std::io;
 use std::io::BufRead;
 use std::str::from_utf8;
@@ -11,6 +15,21 @@ pub trait Line: Copy {
 
     /// The command for a port that it is, or none.
     fn command(self) -> Option<Command>;
+}
+
+/// What a line asks: nothing where it is blank or begins with `#`; else what its words ask, or none where that is nothing that there is.
+pub fn read_line<L: Line>(heap: Global, line: &str) -> Result<Option<Option<L>>, AllocError>
+    ensures comment { IfOk result (λ asked. slice_get line.now 0 ≡ Some 35 → asked ≡ None) }
+    ensures nothing { IfOk result (λ asked. asked ≡ None → (slice_get line.now 0 ≡ Some 35) ⊎ NoAsciiPasses is_not_whitespace line.now) }
+{
+    if line.starts_with('#') {
+        return Ok(None);
+    }
+    let words: Vec<&str> = line.split_whitespace().collect(heap)?;
+    if words.is_empty() {
+        return Ok(None);
+    }
+    Ok(Some(L::from_words(&words)))
 }
 
 /// Reads what the lines of a script ask, with none for a line that asks nothing that there is, as one that is no text.
@@ -27,9 +46,8 @@ pub fn read_script<R: BufRead + Drop, L: Line>(
         }
         match from_utf8(&line) {
             Ok(text) => {
-                let words: Vec<&str> = text.split_whitespace().collect(heap)?;
-                if !words.is_empty() {
-                    script.push(L::from_words(&words))?;
+                if let Some(asked) = read_line(heap, text)? {
+                    script.push(asked)?;
                 }
             }
             Err(_) => script.push(None)?,
