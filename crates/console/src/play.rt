@@ -1,9 +1,8 @@
 use crate::code::read_code;
 use crate::order::Order;
-use crate::serve::answer;
+use crate::serve::serve;
 use board::Board;
 use instructions::instruction::Instruction;
-use player::serve::answer_lines;
 use player::setup::{Use, set_up};
 use ports::port::Port;
 use script::line::read_line;
@@ -20,7 +19,7 @@ struct Orders<'a> {
 impl Use<Order> for Orders<'_> {
     fn on<P: Port + Drop>(self, port: P, rest: &[Option<Order>]) -> io::Result<()> {
         let mut board = Board::load(self.code, port);
-        answer_lines(self.rt, rest, |order| answer(&mut board, order))
+        serve(self.rt, &mut board, rest)
     }
 }
 

@@ -6,10 +6,12 @@ ghost use Rattle.ports.specs.Refusals.{numbered};
 use crate::order::Order;
 use crate::reply::Reply;
 use board::Board;
+use player::serve::answer_lines;
 use ports::port::Port;
 use ports::refusal::Refusal;
 use script::answer::Answer;
 use script::command::Command;
+use std::io;
 
 // The answer of a board's port to a command.
 // Beside that of a port: a board is none, and a trait for both would have these two calls alone.
@@ -28,7 +30,7 @@ fn answer_port<P: Port>(board: &mut Board<P>, command: Command) -> Result<Answer
 }
 
 // The answer of a board to an order.
-pub(crate) fn answer<P: Port>(board: &mut Board<P>, order: Order) -> Reply
+fn answer<P: Port>(board: &mut Board<P>, order: Order) -> Reply
     ensures { Replies (view P.Port.meaning board.old) order result (view P.Port.meaning board.new) }
 {
     match order {
@@ -36,4 +38,13 @@ pub(crate) fn answer<P: Port>(board: &mut Board<P>, order: Order) -> Reply
         Order::Peek(word) => Reply::Word(board.peek(word)),
         Order::Port(command) => Reply::Port(answer_port(board, command)),
     }
+}
+
+/// Answers the lines of a script on a board.
+pub fn serve<P: Port>(
+    rt: &HostRuntime,
+    board: &mut Board<P>,
+    orders: &[Option<Order>],
+) -> io::Result<()> {
+    answer_lines(rt, orders, |order| answer(board, order))
 }

@@ -1,7 +1,6 @@
-use crate::serve::{answer, answer_lines};
+use crate::serve::serve;
 use crate::setup::{Use, set_up};
 use ports::port::Port;
-use script::answer::Told;
 use script::command::Command;
 use script::line::read_script;
 use std::io;
@@ -15,7 +14,7 @@ struct Commands<'a> {
 
 impl Use<Command> for Commands<'_> {
     fn on<P: Port + Drop>(self, mut port: P, rest: &[Option<Command>]) -> io::Result<()> {
-        answer_lines(self.rt, rest, |command| Told(answer(&mut port, command)))
+        serve(self.rt, &mut port, rest)
     }
 }
 

@@ -6,12 +6,12 @@ ghost use Rattle.ports.specs.Refusals.{numbered};
 
 use ports::port::Port;
 use ports::refusal::Refusal;
-use script::answer::Answer;
+use script::answer::{Answer, Told};
 use script::command::Command;
 use std::{fmt, io};
 
 /// The answer of a port to a command.
-pub(crate) fn answer<P: Port>(port: &mut P, command: Command) -> Result<Answer, Refusal>
+fn answer<P: Port>(port: &mut P, command: Command) -> Result<Answer, Refusal>
     ensures answer { numbered result ≡ reply (P.Port.meaning port.old) command }
     ensures after { P.Port.meaning port.new ≡ replied (P.Port.meaning port.old) command }
     ensures lent { P.Port.lenders port.new ≡ P.Port.lenders port.old }
@@ -50,4 +50,13 @@ pub fn answer_lines<L: Copy, A: fmt::Display + Drop, F: FnMut(L) -> A>(
         rest = behind;
     }
     Ok(())
+}
+
+/// Answers the lines of a script on a port.
+pub fn serve<P: Port>(
+    rt: &HostRuntime,
+    port: &mut P,
+    script: &[Option<Command>],
+) -> io::Result<()> {
+    answer_lines(rt, script, |command| Told(answer(port, command)))
 }
