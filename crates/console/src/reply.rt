@@ -15,6 +15,11 @@ pub enum Reply {
 }
 
 impl fmt::Display for Reply {
+    ghost use Rattle.std.specs.Prelude.{Some};
+    ghost use Rattle.console.specs.Shown.{shown_reply};
+
+    ghost output = { λ reply. Some (shown_reply reply) };
+
     fn fmt<W: fmt::Write>(&self, f: &mut fmt::Formatter<W>) -> fmt::Result {
         match *self {
             Reply::Port(answer) => write!(f, "{}", Told(answer)),

@@ -19,6 +19,11 @@ pub enum Answer {
 }
 
 impl fmt::Display for Answer {
+    ghost use Rattle.std.specs.Prelude.{Some};
+    ghost use Rattle.script.specs.Shown.{shown_answer};
+
+    ghost output = { λ answer. Some (shown_answer answer) };
+
     fn fmt<W: fmt::Write>(&self, f: &mut fmt::Formatter<W>) -> fmt::Result {
         match self {
             Answer::Done => write!(f, "ok"),
@@ -36,6 +41,10 @@ impl fmt::Display for Answer {
 pub struct Told<T, E>(pub Result<T, E>);
 
 impl<T: fmt::Display, E: fmt::Display> fmt::Display for Told<T, E> {
+    ghost use Rattle.script.specs.Shown.{shown_told};
+
+    ghost output = { λ told. shown_told T.output E.output told.0 };
+
     fn fmt<W: fmt::Write>(&self, f: &mut fmt::Formatter<W>) -> fmt::Result {
         match &self.0 {
             Ok(value) => write!(f, "{value}"),
