@@ -96,8 +96,6 @@ pub fn take(m: &Memory) -> Result<u8, Fault>
 }
 
 /// The channel and the value of a Put.
-// Out of line, since the loop over instructions is faster while it is small.
-#[inline(never)]
 pub fn put(m: &mut Memory) -> Result<(u8, i16), Fault>
     ensures { Does put m.old result m.new }
 {

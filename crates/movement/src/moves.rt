@@ -71,8 +71,6 @@ pub fn copy(m: &mut Memory, operand: u16) -> Result<(), Fault>
 }
 
 /// Exchanges the two newest words.
-// Out of line, since the loop over instructions is faster while it is small.
-#[inline(never)]
 pub fn swap(m: &mut Memory) -> Result<(), Fault>
     ensures { Does swap m.old result m.new }
 {
