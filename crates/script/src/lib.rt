@@ -5,3 +5,5 @@ pub mod answer;
 pub mod command;
 pub mod line;
 pub mod settings;
+#[cfg(test)]
+mod tests;
