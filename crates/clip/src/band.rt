@@ -54,6 +54,7 @@ impl Band {
     pub fn nearest(self, v: Sample) -> Sample
         ensures { result ≡ nearest (stored self.low) (stored self.high) v }
     {
+        // The one clamp of INTEGERs, and not a sample's own: what is proved of it holds here.
         clamp(v as i32, self.low as i32, self.high as i32) as Sample
     }
 }

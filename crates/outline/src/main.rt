@@ -42,6 +42,7 @@ fn detail(rt: &HostRuntime, source: &[u8], record: TreeRecord) -> io::Result<()>
     }
 }
 
+// A list of kinds of its own: a function over a list of kinds would say no more.
 // Whether a record has no place of its own.
 fn is_placeless(kind: NodeKind) -> bool {
     matches!(

@@ -41,6 +41,7 @@ pub fn read_script<R: BufRead + Drop, L: Line>(
     let mut script = Vec::new(heap);
     for line in source.split(heap, b'\n') {
         let line = line?;
+        // A comment may be bytes that are no text.
         if line.starts_with(b"#") {
             continue;
         }

@@ -51,6 +51,7 @@ impl<P: Port> Port for Trim<P> {
     }
 
     fn take(&mut self, c: u8) -> Result<Option<Sample>, Refusal> {
+        // The port below refuses a channel that is not there.
         let got = self.lower.take(c)?;
         let offset = self.offsets.each[c as usize];
         Ok(got.map(|z| lessened(z, offset)))
